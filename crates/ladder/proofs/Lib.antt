@@ -1,0 +1,15 @@
+pub mod Cases
+pub mod Magnitude
+pub mod Rounding
+pub mod Central
+pub mod Multiples
+pub mod Sticky
+pub mod Ordinals
+pub mod Sum
+pub mod Signed
+pub mod Overflow
+pub mod Nearest
+pub mod Values
+pub mod Truncation
+pub mod Ieee
+pub mod Standard

@@ -1,0 +1,88 @@
+-- The sum is the finite float nearest to the exact sum, and at equal distance the one with even m. Assumes nothing.
+use mathlib.Core.Path.{_≡_, refl, sym, ap, ap₂, _∙_, subst}
+use mathlib.Core.Logic.{_≢_, inl, inr}
+use Prim.Native.Nat.{ℕ, suc, _+_, _-_, _*_, _^_, _%_, min, _≤_, _<_}
+use native.Mathlib.Omega.{arith}
+use Rattle.ladder.specs.Magnitude.{magnitude}
+use Rattle.ladder.specs.Rounding.{round}
+use Rattle.ladder.specs.Ordinal.{sign, infinity, Finite, above, below, mirrored}
+use Rattle.ladder.specs.Sum.{rounded, gains, losses, sum}
+use Rattle.ladder.specs.Nearest.{distance, error, Nearest}
+use Rattle.ladder.proofs.Cases.{le-or-lt}
+use Rattle.ladder.proofs.Magnitude.{magnitude-lt, magnitude-zero}
+use Rattle.ladder.proofs.Rounding.{round-nearest, round-even}
+use Rattle.ladder.proofs.Ordinals.{infinity-lt-sign, sign-even, above-none, below-none}
+use Rattle.ladder.proofs.Sum.{rounded-up, rounded-mirror, above-mirror, below-mirror}
+
+module _ (f e : ℕ) (some : 1 ≤ f) where
+  abbrev s : ℕ
+  s = sign f e
+
+  -- how far an ordinal is from n units above zero
+  error-up : (p n y : ℕ) → n ≤ p → s ≤ y → error f e p n y ≡ distance (p - n) (magnitude f (y - s))
+  unfolding error
+  error-up p n y h l = omega (arith, below-none f e y l)
+
+  error-down : (p n y : ℕ) → n ≤ p → y ≤ s → error f e p n y ≡ p - n + magnitude f (s - y)
+  unfolding error
+  error-down p n y h l = omega (arith, above-none f e y l)
+
+  -- p - n units are at least zero
+  up : (p n : ℕ) → n ≤ p → Finite f e (rounded f e p n) → Nearest f e p n (rounded f e p n)
+  up p n h fin = record {
+    nearest = λ y Y. elim (le-or-lt s y) [
+      | inl l ↦ omega (arith, here, error-up p n y h l, round-nearest f some (p - n) (y - s))
+      | inr l ↦ omega (arith, here, error-down p n y h (omega arith), round-nearest f some (p - n) 0, magnitude-zero f 0 refl)
+    ];
+    even = λ y Y ne same. elim (le-or-lt s y) [
+      | inl l ↦
+          let m : y - s ≢ round f (p - n) = λ z. ne (omega (arith, is)) in
+          let z = round-even f some (p - n) (y - s) m (omega (arith, here, error-up p n y h l)) in
+          omega (arith, is, sign-even f e some)
+      | inr l ↦
+          let pos = magnitude-lt f 0 (s - y) (omega arith) in
+          absurd (omega (arith, here, error-down p n y h (omega arith), round-nearest f some (p - n) 0, magnitude-zero f 0 refl))
+    ];
+  }
+    where
+      is : rounded f e p n ≡ s + round f (p - n)
+      is = let r = rounded-up f e some p n h in omega (arith, fin .high)
+
+      here : error f e p n (rounded f e p n) ≡ distance (p - n) (magnitude f (round f (p - n)))
+      here = error-up p n (rounded f e p n) h (omega (arith, is)) ∙ ap (λ (z : ℕ). distance (p - n) (magnitude f z)) (omega (arith, is))
+
+  error-mirror : (p n y : ℕ) → y ≤ 2 * s → error f e n p (mirrored f e y) ≡ error f e p n y
+  unfolding error
+  error-mirror p n y h = omega (arith, above-mirror f e some y, below-mirror f e some y h)
+
+  finite-mirror : (y : ℕ) → Finite f e y → Finite f e (mirrored f e y)
+  finite-mirror y h = record { low = omega (arith, h .low, h .high, infinity-lt-sign f e); high = omega (arith, h .low, h .high, infinity-lt-sign f e) }
+
+  double : (y : ℕ) → Finite f e y → y ≤ 2 * s
+  double y h = omega (arith, h .high, infinity-lt-sign f e)
+
+  -- what is nearest to n - p units, mirrored, is nearest to p - n units
+  turned : (p n r : ℕ) → Finite f e r → Nearest f e n p r → Nearest f e p n (mirrored f e r)
+  turned p n r R h =
+      let er = error-mirror n p r (double r R) in
+      record {
+        nearest = λ y Y. omega (arith, er, error-mirror p n y (double y Y), h .nearest (mirrored f e y) (finite-mirror y Y));
+        even = λ y Y ne same.
+            let d = double y Y in
+            let z = h .even (mirrored f e y) (finite-mirror y Y) (λ z. ne (omega (arith, double r R))) (omega (arith, er, error-mirror p n y d)) in
+            omega (arith, sign-even f e some, double r R);
+      }
+
+  pub rounded-nearest : (p n : ℕ) → Finite f e (rounded f e p n) → Nearest f e p n (rounded f e p n)
+  rounded-nearest p n fin = elim (le-or-lt n p) [
+    | inl h ↦ up p n h fin
+    | inr h ↦
+        let m = rounded-mirror f e some n p in
+        let r = rounded f e n p in
+        let R : Finite f e r = subst (Finite f e) (sym (rounded-mirror f e some p n)) (finite-mirror (rounded f e p n) fin) in
+        subst (Nearest f e p n) (sym m) (turned p n r R (up n p (omega arith) R))
+  ]
+
+  pub sum-nearest : (x a : ℕ) → Finite f e (sum f e x a) → Nearest f e (gains f e x a) (losses f e x a) (sum f e x a)
+  unfolding sum
+  sum-nearest x a = rounded-nearest (gains f e x a) (losses f e x a)

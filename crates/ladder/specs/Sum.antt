@@ -1,0 +1,23 @@
+-- 01's x ⊕ a on ordinals: the exact sum in units, rounded. A sum with no finite result has the ordinal of an infinity, which lies just beyond the finite ones. Assumes nothing.
+use Prim.Native.Nat.{ℕ, _+_, _-_, _*_, _^_, min}
+use Rattle.ladder.specs.Rounding.{round}
+use Rattle.ladder.specs.Ordinal.{sign, infinity, above, below}
+
+-- p - n units, rounded, as an ordinal
+unfoldable pub rounded : ℕ → ℕ → ℕ → ℕ → ℕ
+rounded f e p n = (sign f e + min (round f (p - n)) (infinity f e)) - min (round f (n - p)) (infinity f e)
+
+-- the exact sum of two ordinals: so many units above zero, less so many below
+abbrev pub gains : ℕ → ℕ → ℕ → ℕ → ℕ
+gains f e x a = above f e x + above f e a
+
+abbrev pub losses : ℕ → ℕ → ℕ → ℕ → ℕ
+losses f e x a = below f e x + below f e a
+
+-- x ⊕ a
+unfoldable pub sum : ℕ → ℕ → ℕ → ℕ → ℕ
+sum f e x a = rounded f e (gains f e x a) (losses f e x a)
+
+-- 01's bound in units: from this size of the exact sum on no finite sum exists. It is half an ulp beyond the largest finite float
+unfoldable pub bound : ℕ → ℕ → ℕ
+bound f e = (4 * 2 ^ f - 1) * 2 ^ (2 ^ e - 4)
