@@ -1,0 +1,68 @@
+-- Formats as values: the format of a width is sound, and patterns and ordinals by a sound format's own numbers. Rests on `ladder`'s laws of ordinals.
+use mathlib.Core.Path.{_≡_, refl, sym, ap, ap₂, _∙_}
+use mathlib.Core.Bool.{Bool, true, false, cond, _&&_, true≢false}
+use Prim.Native.Nat.{ℕ, _+_, _-_, _≤_, _<_}
+use native.Mathlib.Omega.{arith}
+use lib.Dec.{eqb, ltb, lit≤}
+use borrow.Author.Tests.{lt-ltb, le-ltb, ltb-true}
+use Rattle.ladder.specs.Ordinal as L
+use Rattle.ladder.proofs.Ordinals.{infinity-lt-sign}
+use Rattle.arith.specs.declared.format.Format.{Format}
+use Rattle.arith.specs.Formats.{binary, formatOf, Sound, isFinite, ordinal, pattern, Finite}
+use Rattle.arith.specs.Sums.{isFiniteOrdinal}
+
+pub sound : (width : ℕ) → Sound (formatOf width)
+unfolding L.sign L.infinity
+sound width = go (eqb width 32)
+  where
+    go : (b : Bool) → Sound (cond b (binary 23 8) (binary 52 11))
+    go true = record { some = lit≤ tt; few = lit≤ tt; sign = refl; infinity = refl; word = lit≤ tt }
+    go false = record { some = lit≤ tt; few = lit≤ tt; sign = refl; infinity = refl; word = lit≤ tt }
+
+module _ (F : Format) (ok : Sound F) where
+  pub infinity-lt : F .infinity < F .sign
+  infinity-lt = omega (arith, ok .sign, ok .infinity, infinity-lt-sign (F .fraction) (F .exponent))
+
+  -- ---- patterns
+  finite-is : (p : ℕ) → isFinite F p ≡ cond (ltb p (F .sign)) (ltb p (F .infinity)) (ltb (p - F .sign) (F .infinity))
+  finite-is p = ap₂ (λ (s i : ℕ). cond (ltb p s) (ltb p i) (ltb (p - s) i)) (sym (ok .sign)) (sym (ok .infinity))
+
+  pub finite-low : (p : ℕ) → p < F .sign → ltb p (F .infinity) ≡ isFinite F p
+  finite-low p l = sym (finite-is p ∙ ap (λ (b : Bool). cond b (ltb p (F .infinity)) (ltb (p - F .sign) (F .infinity))) (lt-ltb _ _ l))
+
+  pub finite-high : (p : ℕ) → F .sign ≤ p → ltb (p - F .sign) (F .infinity) ≡ isFinite F p
+  finite-high p l = sym (finite-is p ∙ ap (λ (b : Bool). cond b (ltb p (F .infinity)) (ltb (p - F .sign) (F .infinity))) (le-ltb _ _ l))
+
+  pub below-infinity : (p : ℕ) → isFinite F p ≡ true → F .sign ≤ p → p - F .sign < F .infinity
+  below-infinity p h l = ltb-true _ _ (finite-high p l ∙ h)
+
+  pub ordinal-low : (p : ℕ) → p < F .sign → F .sign + p ≡ ordinal F p
+  unfolding L.ordinal
+  ordinal-low p l = sym (ap (λ (s : ℕ). cond (ltb p s) (s + p) (s - (p - s))) (sym (ok .sign)) ∙ ap (λ (b : Bool). cond b (F .sign + p) (F .sign - (p - F .sign))) (lt-ltb _ _ l))
+
+  pub ordinal-high : (p : ℕ) → F .sign ≤ p → F .sign - (p - F .sign) ≡ ordinal F p
+  unfolding L.ordinal
+  ordinal-high p l = sym (ap (λ (s : ℕ). cond (ltb p s) (s + p) (s - (p - s))) (sym (ok .sign)) ∙ ap (λ (b : Bool). cond b (F .sign + p) (F .sign - (p - F .sign))) (le-ltb _ _ l))
+
+  pub pattern-low : (r : ℕ) → r < F .sign → F .sign + (F .sign - r) ≡ pattern F r
+  unfolding L.pattern
+  pattern-low r l = sym (ap (λ (s : ℕ). cond (ltb r s) (s + (s - r)) (r - s)) (sym (ok .sign)) ∙ ap (λ (b : Bool). cond b (F .sign + (F .sign - r)) (r - F .sign)) (lt-ltb _ _ l))
+
+  pub pattern-high : (r : ℕ) → F .sign ≤ r → r - F .sign ≡ pattern F r
+  unfolding L.pattern
+  pattern-high r l = sym (ap (λ (s : ℕ). cond (ltb r s) (s + (s - r)) (r - s)) (sym (ok .sign)) ∙ ap (λ (b : Bool). cond b (F .sign + (F .sign - r)) (r - F .sign)) (le-ltb _ _ l))
+
+  -- ---- finite ordinals
+  pub finite-ordinal : (r : ℕ) → isFiniteOrdinal F r ≡ true → Finite F r
+  unfolding isFiniteOrdinal
+  finite-ordinal r h =
+      let both = split (ltb (F .sign) (r + F .infinity)) (ltb r (F .sign + F .infinity)) h in
+      record {
+        low = omega (arith, ok .sign, ok .infinity, ltb-true (F .sign) (r + F .infinity) (both .0));
+        high = omega (arith, ok .sign, ok .infinity, ltb-true r (F .sign + F .infinity) (both .1));
+      }
+    where
+      split : (p q : Bool) → (p && q) ≡ true → (p ≡ true) × (q ≡ true)
+      split true true e = (refl, refl)
+      split true false e = absurd (true≢false (sym e))
+      split false q e = absurd (true≢false (sym e))

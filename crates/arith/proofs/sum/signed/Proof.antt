@@ -1,0 +1,21 @@
+-- `arith::sum::signed` meets its contract. Assumes nothing.
+use borrow.Author.Needs.{needs}
+use native.Mathlib.Omega.{arith}
+use Rattle.arith.proofs.Formats.{infinity-lt}
+use Rattle.arith.proofs.sum.signed.Statement.{statement}
+use Rattle.arith.proofs.sum.signed.Tie as tie
+
+sub-result : tie.Need-sub-result
+sub-result c = omega (arith, infinity-lt (c .before .before .args .format) (c .before .before .pre .0))
+
+returns : tie.Need-returns
+returns c = simp (c .before .if1 .taken)
+
+add-result : tie.Need-add-result
+add-result c = let s = c .before .before in omega (arith, s .pre .0 .word, infinity-lt (s .args .format) (s .pre .0))
+
+returns-2 : tie.Need-returns-2
+returns-2 c = simp (c .before .if1 .left)
+
+pub signed-spec : {M : Type 1} → statement M
+signed-spec = tie.close (tie.spec sub-result returns add-result returns-2)

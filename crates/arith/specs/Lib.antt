@@ -1,0 +1,5 @@
+pub mod Refusals
+pub mod Formats
+pub mod Exacts
+pub mod Sums
+pub mod Intervals

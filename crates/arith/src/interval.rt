@@ -1,0 +1,230 @@
+// Intervals of patterns, with their cut, shift and mirror. Results are written in canonical patterns.
+ghost use mathlib.Core.Path.{_≡_};
+ghost use mathlib.Core.Bool.{true};
+ghost use Rattle.arith.specs.Formats.{Sound, Finite};
+ghost use Rattle.arith.specs.Sums.{isFiniteOrdinal};
+ghost use Rattle.arith.specs.Intervals.{Ends, endsFinite, rangeOf, intervalOf, sharedIn, movedIn, translated, canonicalIn, cutIn, shiftIn, mirrorIn, canonicalOf, cutOf, shiftOf, mirrorOf};
+use crate::format::Format;
+use crate::format::format_of;
+use crate::format::known;
+use crate::pattern::finite;
+use crate::pattern::ordinal_of;
+use crate::pattern::pattern_of;
+use crate::range::Range;
+use crate::range::ordered;
+use crate::range::reflect;
+use crate::range::shared;
+use crate::refusal::Refusal;
+use crate::refusal::refuse;
+use crate::sum::sum_of;
+
+// The floats from low to high, by their patterns.
+pub struct Interval {
+    pub low: u64,
+    pub high: u64,
+}
+
+// What two intervals share, or that they share nothing.
+pub enum Cut {
+    Shared(Interval),
+    Empty,
+    Refused(Refusal),
+}
+
+// An interval shifted or mirrored.
+pub enum Image {
+    Is(Interval),
+    Refused(Refusal),
+}
+
+// Whether both ends are finite.
+pub(crate) fn ends_finite(format: Format, i: Interval) -> bool
+    requires { ⌜ Sound format ⌝ }
+    ensures { λ r. ⌜ r ≡ endsFinite format i ⌝ }
+{
+    if !finite(format, i.low) {
+        return false;
+    }
+    finite(format, i.high)
+}
+
+// The ordinals of the ends.
+pub(crate) fn range_of(format: Format, i: Interval) -> Range
+    requires { ⌜ (Sound format) × (endsFinite format i ≡ true) ⌝ }
+    ensures { λ r. ⌜ r ≡ rangeOf format i ⌝ }
+{
+    Range {
+        low: ordinal_of(format, i.low),
+        high: ordinal_of(format, i.high),
+    }
+}
+
+// The patterns of the ends.
+pub(crate) fn interval_of(format: Format, r: Range) -> Interval
+    requires { ⌜ (Sound format) × (Ends format r) ⌝ }
+    ensures { λ i. ⌜ i ≡ intervalOf format r ⌝ }
+{
+    Interval {
+        low: pattern_of(format, r.low),
+        high: pattern_of(format, r.high),
+    }
+}
+
+// The interval in canonical patterns.
+fn canonical_in(format: Format, i: Interval) -> Image
+    requires { ⌜ Sound format ⌝ }
+    ensures { λ r. ⌜ r ≡ canonicalIn format i ⌝ }
+{
+    if !ends_finite(format, i) {
+        return Image::Refused(refuse(2));
+    }
+    let own = range_of(format, i);
+    if !ordered(own) {
+        return Image::Refused(refuse(3));
+    }
+    Image::Is(interval_of(format, own))
+}
+
+// What two ranges of finite ordinals share.
+fn shared_in(format: Format, r: Range) -> Cut
+    requires { ⌜ (Sound format) × (Ends format r) ⌝ }
+    ensures { λ c. ⌜ c ≡ sharedIn format r ⌝ }
+{
+    if !ordered(r) {
+        return Cut::Empty;
+    }
+    Cut::Shared(interval_of(format, r))
+}
+
+// The cut in a format.
+fn cut_in(format: Format, i: Interval, j: Interval) -> Cut
+    requires { ⌜ Sound format ⌝ }
+    ensures { λ r. ⌜ r ≡ cutIn format i j ⌝ }
+{
+    if !ends_finite(format, i) {
+        return Cut::Refused(refuse(2));
+    }
+    if !ends_finite(format, j) {
+        return Cut::Refused(refuse(2));
+    }
+    let own = range_of(format, i);
+    if !ordered(own) {
+        return Cut::Refused(refuse(3));
+    }
+    let second = range_of(format, j);
+    if !ordered(second) {
+        return Cut::Refused(refuse(3));
+    }
+    shared_in(format, shared(own, second))
+}
+
+// Whether an ordinal is a finite float's, and no infinity's.
+fn finite_ordinal(format: Format, r: u64) -> bool
+    requires { ⌜ Sound format ⌝ }
+    ensures { λ b. ⌜ b ≡ isFiniteOrdinal format r ⌝ }
+{
+    if r <= format.sign - format.infinity {
+        return false;
+    }
+    r < format.sign + format.infinity
+}
+
+// A moved range, if both ends are finite.
+fn moved_in(format: Format, r: Range) -> Image
+    requires { ⌜ Sound format ⌝ }
+    ensures { λ i. ⌜ i ≡ movedIn format r ⌝ }
+{
+    if !finite_ordinal(format, r.low) {
+        return Image::Refused(refuse(9));
+    }
+    if !finite_ordinal(format, r.high) {
+        return Image::Refused(refuse(9));
+    }
+    Image::Is(interval_of(format, r))
+}
+
+// Both ends moved by c.
+fn translate(format: Format, r: Range, c: u64) -> Range
+    requires { ⌜ (Sound format) × (Ends format r) × (Finite format c) ⌝ }
+    ensures { λ t. ⌜ t ≡ translated format r c ⌝ }
+{
+    Range {
+        low: sum_of(format, r.low, c),
+        high: sum_of(format, r.high, c),
+    }
+}
+
+// The shift in a format.
+fn shift_in(format: Format, i: Interval, c: u64) -> Image
+    requires { ⌜ Sound format ⌝ }
+    ensures { λ r. ⌜ r ≡ shiftIn format i c ⌝ }
+{
+    if !ends_finite(format, i) {
+        return Image::Refused(refuse(2));
+    }
+    if !finite(format, c) {
+        return Image::Refused(refuse(2));
+    }
+    let own = range_of(format, i);
+    if !ordered(own) {
+        return Image::Refused(refuse(3));
+    }
+    moved_in(format, translate(format, own, ordinal_of(format, c)))
+}
+
+// The mirror in a format.
+fn mirror_in(format: Format, i: Interval) -> Image
+    requires { ⌜ Sound format ⌝ }
+    ensures { λ r. ⌜ r ≡ mirrorIn format i ⌝ }
+{
+    if !ends_finite(format, i) {
+        return Image::Refused(refuse(2));
+    }
+    let own = range_of(format, i);
+    if !ordered(own) {
+        return Image::Refused(refuse(3));
+    }
+    Image::Is(interval_of(format, reflect(format, own)))
+}
+
+impl Interval {
+    // The interval with its ends in canonical patterns; refusals 1, 2 for low then high, 3.
+    pub fn canonical(self, width: u64) -> Image
+        ensures { λ r. ⌜ r ≡ canonicalOf width self ⌝ }
+    {
+        if !known(width) {
+            return Image::Refused(refuse(1));
+        }
+        canonical_in(format_of(width), self)
+    }
+
+    // What the interval shares with another; refusals 1, 2 for the own ends then the other's, 3 for the own then the other.
+    pub fn cut(self, width: u64, other: Interval) -> Cut
+        ensures { λ r. ⌜ r ≡ cutOf width self other ⌝ }
+    {
+        if !known(width) {
+            return Cut::Refused(refuse(1));
+        }
+        cut_in(format_of(width), self, other)
+    }
+
+    // From low + c to high + c, each sum rounded; refusals 1, 2 for the ends then c, 3, 9.
+    pub fn shift(self, width: u64, c: u64) -> Image
+        ensures { λ r. ⌜ r ≡ shiftOf width self c ⌝ }
+    {
+        if !known(width) {
+            return Image::Refused(refuse(1));
+        }
+        shift_in(format_of(width), self, c)
+    }
+
+    // From -high to -low; refusals 1, 2, 3.
+    pub fn mirror(self, width: u64) -> Image
+        ensures { λ r. ⌜ r ≡ mirrorOf width self ⌝ }
+    {
+        if !known(width) {
+            return Image::Refused(refuse(1));
+        }
+        mirror_in(format_of(width), self)
+    }
+}

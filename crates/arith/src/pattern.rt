@@ -1,0 +1,38 @@
+// Patterns and ordinals: which patterns are finite, the ordinal of a finite one, and the one pattern that is written for a finite ordinal.
+ghost use mathlib.Core.Path.{_≡_};
+ghost use mathlib.Core.Bool.{true};
+ghost use Rattle.arith.specs.Formats.{Sound, Finite, isFinite, ordinal, pattern};
+use crate::format::Format;
+
+// Whether a pattern is finite. One with bits beyond the width is not.
+pub(crate) fn finite(format: Format, p: u64) -> bool
+    requires { ⌜ Sound format ⌝ }
+    ensures { λ r. ⌜ r ≡ isFinite format p ⌝ }
+{
+    if p < format.sign {
+        return p < format.infinity;
+    }
+    p - format.sign < format.infinity
+}
+
+// The ordinal of a finite pattern.
+pub(crate) fn ordinal_of(format: Format, p: u64) -> u64
+    requires { ⌜ (Sound format) × (isFinite format p ≡ true) ⌝ }
+    ensures { λ r. ⌜ r ≡ ordinal format p ⌝ }
+{
+    if p < format.sign {
+        return format.sign + p;
+    }
+    format.sign - (p - format.sign)
+}
+
+// The pattern of a finite ordinal, zero with its sign clear.
+pub(crate) fn pattern_of(format: Format, r: u64) -> u64
+    requires { ⌜ (Sound format) × (Finite format r) ⌝ }
+    ensures { λ p. ⌜ p ≡ pattern format r ⌝ }
+{
+    if r < format.sign {
+        return format.sign + (format.sign - r);
+    }
+    r - format.sign
+}
