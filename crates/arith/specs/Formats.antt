@@ -31,10 +31,11 @@ pub record Sound (F : Format) : Type 0 where
 abbrev pub isFinite : Format → ℕ → Bool
 isFinite F p = L.isFinite (F .fraction) (F .exponent) p
 
--- the ordinal of a pattern, and the one pattern written for an ordinal
+-- the ordinal of a pattern: 01's place, shifted into the naturals
 abbrev pub ordinal : Format → ℕ → ℕ
 ordinal F p = L.ordinal (F .fraction) (F .exponent) p
 
+-- the one pattern that is written for an ordinal
 abbrev pub pattern : Format → ℕ → ℕ
 pattern F r = L.pattern (F .fraction) (F .exponent) r
 

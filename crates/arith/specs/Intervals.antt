@@ -18,10 +18,11 @@ use Rattle.arith.specs.Sums.{isFiniteOrdinal}
 unfoldable pub endsFinite : Format → Interval → Bool
 endsFinite F I = isFinite F (I .low) && isFinite F (I .high)
 
--- the ends of an interval by their ordinals, and back, each in its one pattern
+-- the ends of an interval by their ordinals
 abbrev pub rangeOf : Format → Interval → Range
 rangeOf F I = record { low = ordinal F (I .low); high = ordinal F (I .high) }
 
+-- and back, each end in its one pattern
 abbrev pub intervalOf : Format → Range → Interval
 intervalOf F R = record { low = pattern F (R .low); high = pattern F (R .high) }
 
@@ -89,15 +90,19 @@ mirrorIn F I =
     (orRefuse Image.Refused (isOrdered (rangeOf F I)) 3
     (Image.Is (intervalOf F (reflected F (rangeOf F I)))))
 
--- ---- the answers of the methods: 1, then those above
+-- ---- the whole answers of the methods
+-- canonical: 1; 2 for low, high; 3
 unfoldable pub canonicalOf : ℕ → Interval → Image
 canonicalOf width I = orRefuse Image.Refused (isKnown width) 1 (canonicalIn (formatOf width) I)
 
+-- cut: 1; 2 for the own low, high, then the second interval's; 3 for the own, then the second
 unfoldable pub cutOf : ℕ → Interval → Interval → Cut
 cutOf width I J = orRefuse Cut.Refused (isKnown width) 1 (cutIn (formatOf width) I J)
 
+-- shift: 1; 2 for the own low, high, then c; 3; 9
 unfoldable pub shiftOf : ℕ → Interval → ℕ → Image
 shiftOf width I c = orRefuse Image.Refused (isKnown width) 1 (shiftIn (formatOf width) I c)
 
+-- mirror: 1; 2 for low, high; 3
 unfoldable pub mirrorOf : ℕ → Interval → Image
 mirrorOf width I = orRefuse Image.Refused (isKnown width) 1 (mirrorIn (formatOf width) I)

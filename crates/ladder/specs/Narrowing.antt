@@ -37,12 +37,15 @@ abbrev pub extentIn : Interval → (ℕ → Bool) → Extent
 extentIn I t = extentFrom t (I .low) (suc (I .high) - I .low)
 
 -- ---- the values that stand in a triple
+-- of the x inside X, those in a triple
 unfoldable pub xExtent : ℕ → ℕ → Interval → Interval → Interval → Extent
 xExtent f e X A B = extentIn X (λ x. anyIn A (λ a. anyIn B (λ b. eqb (sum f e x a) b)))
 
+-- of the a inside A
 unfoldable pub aExtent : ℕ → ℕ → Interval → Interval → Interval → Extent
 aExtent f e X A B = extentIn A (λ a. anyIn X (λ x. anyIn B (λ b. eqb (sum f e x a) b)))
 
+-- of the b inside B
 unfoldable pub bExtent : ℕ → ℕ → Interval → Interval → Interval → Extent
 bExtent f e X A B = extentIn B (λ b. anyIn X (λ x. anyIn A (λ a. eqb (sum f e x a) b)))
 
@@ -58,21 +61,24 @@ gather (over x) empty t = none
 gather (over x) (over a) empty = none
 gather (over x) (over a) (over b) = ends x a b
 
+-- 01's narrowing of X, A and B
 unfoldable pub narrowing : ℕ → ℕ → Interval → Interval → Interval → Narrowing
 narrowing f e X A B = gather (xExtent f e X A B) (aExtent f e X A B) (bExtent f e X A B)
 
 -- ---- the same by what holds of it
--- x stands in a triple, as do a and b below
+-- x stands in a triple
 pub record HasX (f e : ℕ) (X A B : Interval) (x : ℕ) : Type 0 where
   pub a : ℕ
   pub b : ℕ
   pub solution : Solution f e X A B x a b
 
+-- a stands in a triple
 pub record HasA (f e : ℕ) (X A B : Interval) (a : ℕ) : Type 0 where
   pub x : ℕ
   pub b : ℕ
   pub solution : Solution f e X A B x a b
 
+-- b stands in a triple
 pub record HasB (f e : ℕ) (X A B : Interval) (b : ℕ) : Type 0 where
   pub x : ℕ
   pub a : ℕ

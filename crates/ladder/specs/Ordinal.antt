@@ -34,10 +34,11 @@ pub record Finite (f e r : ℕ) : Type 0 where
   pub low : sign f e < r + infinity f e
   pub high : r < sign f e + infinity f e
 
--- the exact value of r is above f e r - below f e r units, of which one is zero
+-- the units of r above zero. The exact value of r is above f e r - below f e r units, of which one is zero
 abbrev pub above : ℕ → ℕ → ℕ → ℕ
 above f e r = magnitude f (r - sign f e)
 
+-- the units of r below zero
 abbrev pub below : ℕ → ℕ → ℕ → ℕ
 below f e r = magnitude f (sign f e - r)
 

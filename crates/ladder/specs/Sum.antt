@@ -7,10 +7,11 @@ use Rattle.ladder.specs.Ordinal.{sign, infinity, above, below}
 unfoldable pub rounded : ℕ → ℕ → ℕ → ℕ → ℕ
 rounded f e p n = (sign f e + min (round f (p - n)) (infinity f e)) - min (round f (n - p)) (infinity f e)
 
--- the exact sum of two ordinals: so many units above zero, less so many below
+-- the units above zero of an exact sum, which is gains - losses
 abbrev pub gains : ℕ → ℕ → ℕ → ℕ → ℕ
 gains f e x a = above f e x + above f e a
 
+-- the units below zero of an exact sum
 abbrev pub losses : ℕ → ℕ → ℕ → ℕ → ℕ
 losses f e x a = below f e x + below f e a
 

@@ -7,10 +7,11 @@ use Rattle.ladder.specs.Magnitude.{magnitude}
 use Rattle.ladder.specs.Ordinal.{sign, isFinite, ordinal, pattern, canonical, above, below}
 use Rattle.ladder.specs.Sum.{rounded}
 
--- the exact value of the pattern p, in units above and below zero: its m counts on the side of its sign
+-- the units above zero of the pattern p: its m counts on the side of its sign
 unfoldable pub unitsAbove : ℕ → ℕ → ℕ → ℕ
 unitsAbove f e p = cond (ltb p (sign f e)) (magnitude f p) 0
 
+-- the units below zero of the pattern p
 unfoldable pub unitsBelow : ℕ → ℕ → ℕ → ℕ
 unitsBelow f e p = cond (ltb p (sign f e)) 0 (magnitude f (p - sign f e))
 
