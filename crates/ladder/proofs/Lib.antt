@@ -13,3 +13,11 @@ pub mod Values
 pub mod Truncation
 pub mod Ieee
 pub mod Standard
+pub mod Extents
+pub mod Narrowing
+pub mod Extremes
+pub mod Solutions
+pub mod Hull
+pub mod Frontier
+pub mod Granularity
+pub mod Clamp

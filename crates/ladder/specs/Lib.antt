@@ -6,3 +6,4 @@ pub mod Nearest
 pub mod Values
 pub mod Solution
 pub mod Narrowing
+pub mod Search

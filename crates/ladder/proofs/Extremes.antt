@@ -1,0 +1,42 @@
+-- The least and the greatest number with a property: closed in on from both sides, read off in a mirror, and together the ends of an interval. Assumes nothing.
+use mathlib.Core.Path.{_≡_}
+use mathlib.Core.Logic.{inl, inr}
+use Prim.Native.Nat.{ℕ, suc, _+_, _-_, _*_, _≤_, _<_}
+use native.Mathlib.Nat.{le-trans}
+use native.Mathlib.Omega.{arith}
+use Rattle.ladder.specs.Solution.{Interval, In}
+use Rattle.ladder.specs.Narrowing.{Spans}
+use Rattle.ladder.specs.Search.{Never, Least, Greatest, Bracket}
+use Rattle.ladder.proofs.Cases.{le-or-lt}
+
+pub spans-of : {P : ℕ → Type 0} {l h : ℕ} → Least P l → Greatest P h → Spans P (record { low = l; high = h })
+spans-of p q = record { low = p .holds; high = q .holds; all = λ y r. record { low = p .least y r; high = q .most y r } }
+
+-- ---- closing in
+pub bracket-order : {P : ℕ → Type 0} {l h : ℕ} → Bracket P l h → l ≤ h
+bracket-order {P} {l} {h} r = r .below h (r .holds)
+
+-- one that has the property
+pub bracket-lower : {P : ℕ → Type 0} {l h s : ℕ} → Bracket P l h → P s → Bracket P l s
+bracket-lower r p = record { holds = p; below = r .below }
+
+-- none up to m has it
+pub bracket-raise : {P : ℕ → Type 0} {l h : ℕ} (m : ℕ) → Bracket P l h → ((y : ℕ) → P y → l ≤ y → y ≤ m → ⊥) → Bracket P (m + 1) h
+bracket-raise m r n = record {
+  holds = r .holds;
+  below = λ y p. elim (le-or-lt (m + 1) y) [ inl g ↦ g | inr g ↦ absurd (n y p (r .below y p) (omega arith)) ];
+}
+
+pub bracket-least : {P : ℕ → Type 0} {l h : ℕ} → Bracket P l h → h ≤ l → Least P h
+bracket-least r g = record { holds = r .holds; least = λ y p. le-trans g (r .below y p) }
+
+-- ---- two properties of which one holds at t - z where the other holds at z
+module _ (t : ℕ) (P Q : ℕ → Type 0) (to : (z : ℕ) → P z → Q (t - z)) where
+  pub mirror-never : Never Q → Never P
+  mirror-never n z p = n (t - z) (to z p)
+
+  pub mirror-greatest : (from : (z : ℕ) → Q z → P (t - z)) (top : (z : ℕ) → P z → z ≤ t) (y : ℕ) → Least Q y → Greatest P (t - y)
+  mirror-greatest from top y l = record {
+    holds = from y (l .holds);
+    most = λ z p. omega (arith, l .least (t - z) (to z p), top z p);
+  }

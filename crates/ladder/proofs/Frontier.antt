@@ -1,0 +1,105 @@
+-- The search for the least x in a triple: each turn looks at the frontier x, and finds the triple, or that there is none, or a higher frontier that jumps over no triple. Only that the sum is
+-- monotone and commutative is used. Assumes nothing.
+use mathlib.Core.Path.{_≡_, refl, subst}
+use mathlib.Core.Logic.{inl, inr}
+use Prim.Native.Nat.{ℕ, _+_, _-_, _≤_, _<_}
+use native.Mathlib.Nat.{le-refl, le-trans, not-le-of-lt}
+use native.Mathlib.Omega.{arith}
+use Rattle.ladder.specs.Sum.{sum}
+use Rattle.ladder.specs.Solution.{Interval, In, Solution}
+use Rattle.ladder.specs.Narrowing.{HasX}
+use Rattle.ladder.specs.Search.{Never, Least, Attains, Frontier, Leading}
+use Rattle.ladder.proofs.Cases.{le-or-lt}
+use Rattle.ladder.proofs.Sum.{sum-comm, sum-mono}
+
+module _ (f e : ℕ) (some : 1 ≤ f) where
+  -- ---- one operand
+  pub sum-below : (p a b y : ℕ) → sum f e p a < b → y ≤ p → b ≤ sum f e y a → ⊥
+  sum-below p a b y h l g = omega (arith, sum-mono f e some y p a a l (le-refl a))
+
+  -- ---- the least x
+  module _ (X A B : Interval) where
+    -- an x in a triple reaches B with A's high end
+    pub attains : (y : ℕ) → HasX f e X A B y → Attains f e (A .high) (B .low) X y
+    attains y w =
+        let s = w .solution in
+        let i = s .a-in in
+        record { inside = s .x-in; enough = omega (arith, sum-mono f e some y y (w .a) (A .high) (le-refl y) (i .high), s .is, s .b-in .low) }
+
+    pub frontier-start : (x : ℕ) → Least (Attains f e (A .high) (B .low) X) x → Frontier f e X A B x
+    frontier-start x l = record { inside = l .holds .inside; enough = l .holds .enough; below = λ y w. l .least y (attains y w) }
+
+    pub frontier-none : Never (Attains f e (A .high) (B .low) X) → Never (HasX f e X A B)
+    frontier-none n y w = n y (attains y w)
+
+    module _ (x : ℕ) (r : Frontier f e X A B x) where
+      -- even the least a makes too large a sum, here and further up
+      pub frontier-past : B .high < sum f e x (A .low) → Never (HasX f e X A B)
+      frontier-past h y w =
+          let s = w .solution in
+          omega (arith, sum-mono f e some x y (A .low) (w .a) (r .below y w) (s .a-in .low), s .is, s .b-in .high)
+
+      -- A has no a that makes the sum large enough: then it is empty
+      pub frontier-empty : Never (Attains f e x (B .low) A) → Never (HasX f e X A B)
+      frontier-empty n y w =
+          let i = w .solution .a-in in
+          n (A .high) (record { inside = record { low = omega arith; high = le-refl (A .high) }; enough = subst (λ (z : ℕ). B .low ≤ z) (sum-comm f e x (A .high)) (r .enough) })
+
+      -- c is the least a that makes the sum large enough
+      module _ (c : ℕ) (l : Least (Attains f e x (B .low) A) c) where
+        pub frontier-hit : sum f e x c ≤ B .high → Leading f e X A B x c
+        frontier-hit h =
+            let g = l .holds .enough in
+            let k = sum-comm f e c x in
+            record {
+              solution = record { x-in = r .inside; a-in = l .holds .inside; b-in = record { low = omega arith; high = h }; is = refl };
+              least = r .below;
+            }
+
+        -- it makes it too large: the a below c are too small at x, the others too large from x on
+        module _ (h : B .high < sum f e x c) (g : sum f e x (A .low) ≤ B .high) where
+          pub above-low : A .low < c
+          above-low = elim (le-or-lt c (A .low)) [
+            | inl q ↦ absurd (omega (arith, sum-mono f e some x x c (A .low) (le-refl x) q))
+            | inr q ↦ q
+          ]
+
+          -- so a triple has an a below c, and reaches B with c - 1
+          jumps : (y : ℕ) → HasX f e X A B y → Attains f e (c - 1) (B .low) (record { low = x; high = X .high }) y
+          jumps y w =
+              let s = w .solution in
+              let t = s .b-in in
+              elim (le-or-lt c (w .a)) [
+                | inl q ↦ absurd (omega (arith, sum-mono f e some x y c (w .a) (r .below y w) q, s .is))
+                | inr q ↦ record {
+                  inside = record { low = r .below y w; high = s .x-in .high };
+                  enough = omega (arith, sum-mono f e some y y (w .a) (c - 1) (le-refl y) (omega arith), s .is);
+                }
+              ]
+
+          pub frontier-end : Never (Attains f e (c - 1) (B .low) (record { low = x; high = X .high })) → Never (HasX f e X A B)
+          frontier-end n y w = n y (jumps y w)
+
+          pub frontier-next : (y : ℕ) → Least (Attains f e (c - 1) (B .low) (record { low = x; high = X .high })) y → (x < y) × Frontier f e X A B y
+          frontier-next y m =
+              let i = m .holds .inside in
+              let j = r .inside in
+              let k = l .holds .inside in (
+                elim (le-or-lt y x) [
+                  | inl q ↦ absurd (short (m .holds .enough) q)
+                  | inr q ↦ q
+                ],
+                record {
+                  inside = record { low = omega arith; high = i .high };
+                  enough = le-trans (m .holds .enough) (sum-mono f e some y y (c - 1) (A .high) (le-refl y) (omega arith));
+                  below = λ z w. m .least z (jumps z w);
+                },
+              )
+            where
+              -- c - 1 is below the least a
+              short : B .low ≤ sum f e y (c - 1) → y ≤ x → ⊥
+              short p q =
+                  let k = l .holds .inside in
+                  let t = above-low in
+                  let at : Attains f e x (B .low) A (c - 1) = record { inside = record { low = omega arith; high = omega arith }; enough = omega (arith, sum-mono f e some y x (c - 1) (c - 1) q (le-refl (c - 1)), sum-comm f e (c - 1) x) } in
+                  omega (arith, l .least (c - 1) at)

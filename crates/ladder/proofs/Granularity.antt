@@ -1,0 +1,42 @@
+-- Which powers of two divide no value of a run of m: more than the upper value has digits, or, inside one binade, the digits in which the number before the lowest significand and the highest differ. Assumes nothing.
+use mathlib.Core.Path.{_≡_, sym, ap, ap₂, _∙_, subst}
+use mathlib.Core.Logic.{inl, inr}
+use Prim.Native.Nat.{ℕ, suc, _+_, _-_, _*_, _/_, _%_, _^_, _≤_, _<_, _∣_}
+use native.Mathlib.Nat.{le-refl, le-of-dvd, le-div-iff-mul-le, div-lt-iff-lt-mul, div-add-mod', mod-lt, dvd-of-mul-dvd-mul-right, mod-eq-zero-of-dvd}
+use native.Mathlib.Omega.{arith}
+use lib.Pow.{pow-pos, pow-add}
+use Rattle.ladder.specs.Magnitude.{magnitude, shift, significand}
+use Rattle.ladder.specs.Search.{NoMultiple}
+use Rattle.ladder.proofs.Magnitude.{magnitude-lt, magnitude-low, magnitude-high, magnitude-is, parts, Counted}
+
+-- between u and v, which agree but for j digits, lies no multiple of 2^j
+gapless : (u v s j : ℕ) → u / 2 ^ j ≡ v / 2 ^ j → u < s → s ≤ v → 2 ^ j ∣ s → ⊥
+gapless u v s j e l h d =
+    let q = s / 2 ^ j in
+    let is : s ≡ q * 2 ^ j = omega (arith, div-add-mod' s (2 ^ j), mod-eq-zero-of-dvd (2 ^ j) d) in
+    let a : u / 2 ^ j < q = div-lt-iff-lt-mul (pow-pos j) .1 (omega arith) in
+    let b : q ≤ v / 2 ^ j = le-div-iff-mul-le (pow-pos j) .1 (omega arith) in
+    omega arith
+
+module _ (f : ℕ) where
+  -- a power of two
+  pub magnitude-power : (k : ℕ) → magnitude f ((k + 1) * 2 ^ f) ≡ 2 ^ (f + k)
+  magnitude-power k = ap (magnitude f) (omega arith) ∙ magnitude-high f k (2 ^ f) (le-refl (2 ^ f)) (omega arith) ∙ sym (pow-add 2 f k)
+
+  -- more than the digits of the upper value
+  pub digits-free : (k lo hi : ℕ) → 0 < lo → hi < (k + 1) * 2 ^ f → NoMultiple f (f + k) lo hi
+  digits-free k lo hi p h m l g d =
+      let a = le-of-dvd (omega (arith, magnitude-lt f 0 m (omega arith))) d in
+      omega (arith, magnitude-power k, magnitude-lt f m ((k + 1) * 2 ^ f) (omega arith))
+
+  -- in the binade of step 2^k, by the significands lo and hi
+  pub binade-free : (j k lo hi : ℕ) → Counted (2 ^ f) k lo → hi ≤ 2 * 2 ^ f → 0 < lo → (lo - 1) / 2 ^ j ≡ hi / 2 ^ j → NoMultiple f (j + k) (k * 2 ^ f + lo) (k * 2 ^ f + hi)
+  binade-free j k lo hi c h p e m l g d =
+      let s = m - k * 2 ^ f in
+      let is : magnitude f m ≡ s * 2 ^ k = ap (magnitude f) (omega arith) ∙ magnitude-is f k s (more c (omega arith)) (omega arith) in
+      let d' : 2 ^ j * 2 ^ k ∣ s * 2 ^ k = subst (λ (x : ℕ). x ∣ s * 2 ^ k) (pow-add 2 j k) (subst (λ (x : ℕ). 2 ^ (j + k) ∣ x) is d) in
+      gapless (lo - 1) hi s j e (omega arith) (omega arith) (dvd-of-mul-dvd-mul-right (2 ^ j) (pow-pos k) d')
+    where
+      more : {q : ℕ} → Counted (2 ^ f) k lo → lo ≤ q → Counted (2 ^ f) k q
+      more (inl z) w = inl z
+      more (inr z) w = inr (omega arith)

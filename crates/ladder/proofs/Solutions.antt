@@ -1,0 +1,103 @@
+-- Triples under a change of the intervals: the operands swapped, all three mirrored, and other intervals that hold the same triples. Assumes nothing.
+use mathlib.Core.Path.{_≡_, sym, ap, _∙_}
+use Prim.Native.Nat.{ℕ, _+_, _-_, _*_, _≤_, _<_}
+use native.Mathlib.Omega.{arith}
+use Rattle.ladder.specs.Ordinal.{sign, infinity, mirrored, Finite}
+use Rattle.ladder.specs.Sum.{sum}
+use Rattle.ladder.specs.Solution.{Interval, In, Solution}
+use Rattle.ladder.specs.Narrowing.{HasX, HasA, HasB, Spans}
+use Rattle.ladder.specs.Search.{Never, Least, Leading, Bounded, reflection}
+use Rattle.ladder.proofs.Ordinals.{infinity-lt-sign}
+use Rattle.ladder.proofs.Sum.{sum-comm, sum-mirror}
+
+-- ---- the operands swapped
+pub swap : {f e : ℕ} {X A B : Interval} {x a b : ℕ} → Solution f e X A B x a b → Solution f e A X B a x b
+swap {f} {e} {X} {A} {B} {x} {a} {b} s = record { x-in = s .a-in; a-in = s .x-in; b-in = s .b-in; is = sum-comm f e a x ∙ s .is }
+
+module _ (f e : ℕ) (X A B : Interval) where
+  pub swap-x : (y : ℕ) → HasX f e A X B y → HasA f e X A B y
+  swap-x y w = record { x = w .a; b = w .b; solution = swap (w .solution) }
+
+  pub swap-a : (y : ℕ) → HasA f e X A B y → HasX f e A X B y
+  swap-a y w = record { a = w .x; b = w .b; solution = swap (w .solution) }
+
+  pub swap-spans : (I : Interval) → Spans (HasX f e A X B) I → Spans (HasA f e X A B) I
+  swap-spans I s = record { low = swap-x (I .low) (s .low); high = swap-x (I .high) (s .high); all = λ y w. s .all y (swap-a y w) }
+
+-- ---- every triple inside X, A, B lies inside X', A', B'
+abbrev pub Kept : ℕ → ℕ → Interval → Interval → Interval → Interval → Interval → Interval → Type 0
+Kept f e X A B X' A' B' = (x a b : ℕ) → Solution f e X A B x a b → Solution f e X' A' B' x a b
+
+module _ (f e : ℕ) (X A B X' A' B' : Interval) (k : Kept f e X A B X' A' B') where
+  pub kept-x : (y : ℕ) → HasX f e X A B y → HasX f e X' A' B' y
+  kept-x y w = record { a = w .a; b = w .b; solution = k y (w .a) (w .b) (w .solution) }
+
+  pub kept-a : (y : ℕ) → HasA f e X A B y → HasA f e X' A' B' y
+  kept-a y w = record { x = w .x; b = w .b; solution = k (w .x) y (w .b) (w .solution) }
+
+  pub kept-b : (y : ℕ) → HasB f e X A B y → HasB f e X' A' B' y
+  kept-b y w = record { x = w .x; a = w .a; solution = k (w .x) (w .a) y (w .solution) }
+
+  -- the answer for smaller intervals that lose no triple
+  pub kept-leading : Kept f e X' A' B' X A B → (x a : ℕ) → Leading f e X' A' B' x a → Leading f e X A B x a
+  kept-leading j x a l = record { solution = j x a (sum f e x a) (l .solution); least = λ y w. l .least y (kept-x y w) }
+
+-- ---- mirrored
+pub mirror-finite : (f e r : ℕ) → Finite f e r → Finite f e (mirrored f e r)
+mirror-finite f e r n = let c = infinity-lt-sign f e in record { low = omega arith; high = omega arith }
+
+pub mirror-bounded : (f e : ℕ) (I : Interval) → Bounded f e I → Bounded f e (reflection f e I)
+mirror-bounded f e I n = record { low = mirror-finite f e (I .high) (n .high); high = mirror-finite f e (I .low) (n .low) }
+
+pub finite-in : (f e : ℕ) (I : Interval) → Bounded f e I → (y : ℕ) → In I y → Finite f e y
+finite-in f e I n y i = record { low = omega arith; high = omega arith }
+
+pub finite-twice : (f e r : ℕ) → Finite f e r → r ≤ 2 * sign f e
+finite-twice f e r n = omega (arith, infinity-lt-sign f e)
+
+in-reflection : (f e : ℕ) (I : Interval) (y : ℕ) → In I y → In (reflection f e I) (mirrored f e y)
+in-reflection f e I y i = record { low = omega arith; high = omega arith }
+
+in-reflected : (f e : ℕ) (I : Interval) → Bounded f e I → (y : ℕ) → In (reflection f e I) y → In I (mirrored f e y)
+in-reflected f e I n y i = let l = finite-twice f e (I .low) (n .low) in let h = finite-twice f e (I .high) (n .high) in record { low = omega arith; high = omega arith }
+
+module _ (f e : ℕ) (some : 1 ≤ f) (X A B : Interval) (nx : Bounded f e X) (na : Bounded f e A) (nb : Bounded f e B) where
+  abbrev X' : Interval
+  X' = reflection f e X
+
+  abbrev A' : Interval
+  A' = reflection f e A
+
+  abbrev B' : Interval
+  B' = reflection f e B
+
+  pub mirror-solution : (x a b : ℕ) → Solution f e X A B x a b → Solution f e X' A' B' (mirrored f e x) (mirrored f e a) (mirrored f e b)
+  mirror-solution x a b s = record {
+    x-in = in-reflection f e X x (s .x-in);
+    a-in = in-reflection f e A a (s .a-in);
+    b-in = in-reflection f e B b (s .b-in);
+    is = sum-mirror f e some x a (finite-twice f e x (finite-in f e X nx x (s .x-in))) (finite-twice f e a (finite-in f e A na a (s .a-in))) ∙ ap (mirrored f e) (s .is);
+  }
+
+  pub mirrored-solution : (x a b : ℕ) → Solution f e X' A' B' x a b → Solution f e X A B (mirrored f e x) (mirrored f e a) (mirrored f e b)
+  mirrored-solution x a b s =
+      let fx = finite-in f e X' (mirror-bounded f e X nx) x (s .x-in) in
+      let fa = finite-in f e A' (mirror-bounded f e A na) a (s .a-in) in
+      record {
+        x-in = in-reflected f e X nx x (s .x-in);
+        a-in = in-reflected f e A na a (s .a-in);
+        b-in = in-reflected f e B nb b (s .b-in);
+        is = sum-mirror f e some x a (finite-twice f e x fx) (finite-twice f e a fa) ∙ ap (mirrored f e) (s .is);
+      }
+
+  pub mirror-x : (y : ℕ) → HasX f e X A B y → HasX f e X' A' B' (mirrored f e y)
+  mirror-x y w = record { a = mirrored f e (w .a); b = mirrored f e (w .b); solution = mirror-solution y (w .a) (w .b) (w .solution) }
+
+  pub mirrored-x : (y : ℕ) → HasX f e X' A' B' y → HasX f e X A B (mirrored f e y)
+  mirrored-x y w = record { a = mirrored f e (w .a); b = mirrored f e (w .b); solution = mirrored-solution y (w .a) (w .b) (w .solution) }
+
+  pub mirror-b : (y : ℕ) → HasB f e X A B y → HasB f e X' A' B' (mirrored f e y)
+  mirror-b y w = record { x = mirrored f e (w .x); a = mirrored f e (w .a); solution = mirror-solution (w .x) (w .a) y (w .solution) }
+
+  pub mirrored-b : (y : ℕ) → HasB f e X' A' B' y → HasB f e X A B (mirrored f e y)
+  mirrored-b y w = record { x = mirrored f e (w .x); a = mirrored f e (w .a); solution = mirrored-solution (w .x) (w .a) y (w .solution) }

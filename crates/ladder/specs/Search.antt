@@ -1,0 +1,66 @@
+-- What the search for the ends of a narrowing finds on its way, each by what holds of it: the least number with a property, the least operand with a sum of at least b, the least x in a triple.
+-- Also the two images of an interval that the search uses: its mirror, and the interval without what is too coarse. Assumes nothing.
+use mathlib.Core.Path.{_≡_}
+use Prim.Native.Nat.{ℕ, _+_, _-_, _*_, _^_, _≤_, _∣_, max}
+use Rattle.ladder.specs.Magnitude.{magnitude}
+use Rattle.ladder.specs.Ordinal.{sign, mirrored, Finite}
+use Rattle.ladder.specs.Sum.{sum}
+use Rattle.ladder.specs.Solution.{Interval, In, Solution}
+use Rattle.ladder.specs.Narrowing.{HasX}
+
+-- ---- the numbers with a property
+-- there are none
+abbrev pub Never : (ℕ → Type 0) → Type 0
+Never P = (y : ℕ) → P y → ⊥
+
+pub record Least (P : ℕ → Type 0) (y : ℕ) : Type 0 where
+  pub holds : P y
+  pub least : (z : ℕ) → P z → y ≤ z
+
+pub record Greatest (P : ℕ → Type 0) (y : ℕ) : Type 0 where
+  pub holds : P y
+  pub most : (z : ℕ) → P z → z ≤ y
+
+-- the least of them lies from l to h
+pub record Bracket (P : ℕ → Type 0) (l h : ℕ) : Type 0 where
+  pub holds : P h
+  pub below : (y : ℕ) → P y → l ≤ y
+
+-- ---- one operand: y inside I has a sum with a of at least b
+pub record Attains (f e a b : ℕ) (I : Interval) (y : ℕ) : Type 0 where
+  pub inside : In I y
+  pub enough : b ≤ sum f e y a
+
+-- ---- the least x in a triple
+-- none is below x, and some a up to A's high end would make the sum large enough
+pub record Frontier (f e : ℕ) (X A B : Interval) (x : ℕ) : Type 0 where
+  pub inside : In X x
+  pub enough : B .low ≤ sum f e x (A .high)
+  pub below : (y : ℕ) → HasX f e X A B y → x ≤ y
+
+-- it is x, with a
+pub record Leading (f e : ℕ) (X A B : Interval) (x a : ℕ) : Type 0 where
+  pub solution : Solution f e X A B x a (sum f e x a)
+  pub least : (y : ℕ) → HasX f e X A B y → x ≤ y
+
+-- ---- images of an interval
+-- both ends are finite
+pub record Bounded (f e : ℕ) (I : Interval) : Type 0 where
+  pub low : Finite f e (I .low)
+  pub high : Finite f e (I .high)
+
+-- from -high to -low
+abbrev pub reflection : ℕ → ℕ → Interval → Interval
+reflection f e I = record { low = mirrored f e (I .high); high = mirrored f e (I .low) }
+
+-- no value of m from lo to hi is a multiple of 2^k units
+abbrev pub NoMultiple : ℕ → ℕ → ℕ → ℕ → Type 0
+NoMultiple f k lo hi = (m : ℕ) → lo ≤ m → m ≤ hi → 2 ^ k ∣ magnitude f m → ⊥
+
+-- without the values below zero of 2^(k + f) units and more: from there on every value is a multiple of 2^k
+abbrev pub raised : ℕ → ℕ → ℕ → Interval → Interval
+raised f e k I = record { low = max (I .low) (sign f e + 1 - (k + 1) * 2 ^ f); high = I .high }
+
+-- the mirror image: without the values above zero of that size
+abbrev pub lowered : ℕ → ℕ → ℕ → Interval → Interval
+lowered f e k I = reflection f e (raised f e k (reflection f e I))
