@@ -13,10 +13,12 @@ use Rattle.ladder.specs.Narrowing.{HasX}
 abbrev pub Never : (ℕ → Type 0) → Type 0
 Never P = (y : ℕ) → P y → ⊥
 
+-- y is the least of them
 pub record Least (P : ℕ → Type 0) (y : ℕ) : Type 0 where
   pub holds : P y
   pub least : (z : ℕ) → P z → y ≤ z
 
+-- y is the greatest of them
 pub record Greatest (P : ℕ → Type 0) (y : ℕ) : Type 0 where
   pub holds : P y
   pub most : (z : ℕ) → P z → z ≤ y
