@@ -1,11 +1,9 @@
 -- `arith::interval::mirror_in` meets its contract. Assumes nothing.
-use mathlib.Core.Path.{_≡_, sym, ap, ap₂, _∙_, subst}
-use mathlib.Core.Bool.{true}
+use mathlib.Core.Path.{ap, _∙_}
 use borrow.Author.Needs.{needs}
-use borrow.Author.Tests.{not-true, not-false}
 use Rattle.arith.specs.declared.interval.Image.the-variants as Image
 use Rattle.arith.specs.Intervals.{isOrdered, intervalOf, reflected, mirrorIn}
-use Rattle.arith.proofs.Refusing.{refused, passed}
+use Rattle.arith.proofs.Refusing.{refused, passed, holds, fails}
 use Rattle.arith.proofs.Intervals.{range-ends, reflected-ends}
 use Rattle.arith.proofs.interval.mirror_in.Statement.{statement}
 use Rattle.arith.proofs.interval.mirror_in.Tie as tie
@@ -18,10 +16,12 @@ refuse-requires c κs = search needs
 
 returns : tie.Need-returns
 unfolding mirrorIn
-returns c = refused Image.Refused 2 _ _ (c .refuse .ensures) (sym (c .before .before .ends-finite .ensures) ∙ not-true _ (c .before .if1 .taken))
+returns c =
+    let t = c .before in
+    refused Image.Refused 2 _ _ (c .refuse .ensures) (fails (t .before .ends-finite .ensures) (t .if1 .taken))
 
 range-of-requires : tie.Need-range-of-requires
-range-of-requires c κs = (c .before .before .pre, sym (c .before .ends-finite .ensures) ∙ not-false _ (c .if1 .left))
+range-of-requires c κs = (c .before .before .pre, holds (c .before .ends-finite .ensures) (c .if1 .left))
 
 ordered-requires : tie.Need-ordered-requires
 ordered-requires c κs = search needs
@@ -31,17 +31,33 @@ refuse-requires-2 c κs = search needs
 
 returns-2 : tie.Need-returns-2
 unfolding mirrorIn
-returns-2 c = passed Image.Refused 2 _ _ (sym (c .before .before .before .before .before .ends-finite .ensures) ∙ not-false _ (c .before .before .before .before .if1 .left)) (refused Image.Refused 3 _ _ (c .refuse2 .ensures) (sym (ap isOrdered (c .before .before .before .range-of .ensures)) ∙ sym (c .before .before .ordered .ensures) ∙ not-true _ (c .before .if2 .taken)))
+returns-2 c =
+    let t = c .before in
+    let s1 = t .before .before .before in
+    passed Image.Refused 2 _ _ (holds (s1 .before .ends-finite .ensures) (s1 .if1 .left))
+    (refused Image.Refused 3 _ _ (c .refuse2 .ensures) (fails (t .before .ordered .ensures ∙ ap isOrdered (t .before .before .range-of .ensures)) (t .if2 .taken)))
 
 reflect-requires : tie.Need-reflect-requires
-reflect-requires c κs = (c .before .before .before .before .before .pre, range-ends _ _ _ (c .before .before .range-of .ensures) (sym (c .before .before .before .before .ends-finite .ensures) ∙ not-false _ (c .before .before .before .if1 .left)))
+reflect-requires c κs =
+    let s1 = c .before .before .before in
+    (s1 .before .before .pre, range-ends _ _ _ (c .before .before .range-of .ensures) (holds (s1 .before .ends-finite .ensures) (s1 .if1 .left)))
 
 interval-of-requires : tie.Need-interval-of-requires
-interval-of-requires c κs = (c .before .before .before .before .before .before .pre, reflected-ends _ _ _ (c .reflect .ensures) (range-ends _ _ _ (c .before .before .before .range-of .ensures) (sym (c .before .before .before .before .before .ends-finite .ensures) ∙ not-false _ (c .before .before .before .before .if1 .left))))
+interval-of-requires c κs =
+    let s2 = c .before in
+    let s1 = s2 .before .before .before in
+    (s1 .before .before .pre, reflected-ends _ _ _ (c .reflect .ensures) (range-ends _ _ _ (s2 .before .before .range-of .ensures) (holds (s1 .before .ends-finite .ensures) (s1 .if1 .left))))
 
 returns-3 : tie.Need-returns-3
 unfolding mirrorIn
-returns-3 c = passed Image.Refused 2 _ _ (sym (c .before .before .before .before .before .before .ends-finite .ensures) ∙ not-false _ (c .before .before .before .before .before .if1 .left)) (passed Image.Refused 3 _ _ (sym (ap isOrdered (c .before .before .before .before .range-of .ensures)) ∙ sym (c .before .before .before .ordered .ensures) ∙ not-false _ (c .before .before .if2 .left)) (ap Image.Is (c .interval-of .ensures ∙ ap (intervalOf (c .before .before .before .before .before .before .before .args .format)) (c .before .reflect .ensures ∙ ap (reflected (c .before .before .before .before .before .before .before .args .format)) (c .before .before .before .before .range-of .ensures)))))
+returns-3 c =
+    let s2 = c .before .before in
+    let s1 = s2 .before .before .before in
+    passed Image.Refused 2 _ _ (holds (s1 .before .ends-finite .ensures) (s1 .if1 .left))
+    (passed Image.Refused 3 _ _ (holds (s2 .before .ordered .ensures ∙ ap isOrdered (s2 .before .before .range-of .ensures)) (s2 .if2 .left))
+    (
+    let F = s1 .before .before .args .format in
+    ap Image.Is (c .interval-of .ensures ∙ ap (intervalOf F) (c .before .reflect .ensures ∙ ap (reflected F) (s2 .before .before .range-of .ensures)))))
 
 pub mirror-in-spec : {M : Type 1} → statement M
 mirror-in-spec = tie.close (tie.spec ends-finite-requires refuse-requires returns range-of-requires ordered-requires refuse-requires-2 returns-2 reflect-requires interval-of-requires returns-3)

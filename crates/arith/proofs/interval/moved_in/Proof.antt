@@ -1,11 +1,9 @@
 -- `arith::interval::moved_in` meets its contract. Assumes nothing.
-use mathlib.Core.Path.{_≡_, sym, ap, ap₂, _∙_, subst}
-use mathlib.Core.Bool.{true}
+use mathlib.Core.Path.{ap}
 use borrow.Author.Needs.{needs}
-use borrow.Author.Tests.{not-true, not-false}
 use Rattle.arith.specs.declared.interval.Image.the-variants as Image
 use Rattle.arith.specs.Intervals.{movedIn}
-use Rattle.arith.proofs.Refusing.{refused, passed}
+use Rattle.arith.proofs.Refusing.{refused, passed, holds, fails}
 use Rattle.arith.proofs.Formats.{finite-ordinal}
 use Rattle.arith.proofs.interval.moved_in.Statement.{statement}
 use Rattle.arith.proofs.interval.moved_in.Tie as tie
@@ -18,7 +16,9 @@ refuse-requires c κs = search needs
 
 returns : tie.Need-returns
 unfolding movedIn
-returns c = refused Image.Refused 9 _ _ (c .refuse .ensures) (sym (c .before .before .finite-ordinal .ensures) ∙ not-true _ (c .before .if1 .taken))
+returns c =
+    let t = c .before in
+    refused Image.Refused 9 _ _ (c .refuse .ensures) (fails (t .before .finite-ordinal .ensures) (t .if1 .taken))
 
 finite-ordinal-requires-2 : tie.Need-finite-ordinal-requires-2
 finite-ordinal-requires-2 c κs = search needs
@@ -28,14 +28,31 @@ refuse-requires-2 c κs = search needs
 
 returns-2 : tie.Need-returns-2
 unfolding movedIn
-returns-2 c = passed Image.Refused 9 _ _ (sym (c .before .before .before .before .finite-ordinal .ensures) ∙ not-false _ (c .before .before .before .if1 .left)) (refused Image.Refused 9 _ _ (c .refuse2 .ensures) (sym (c .before .before .finite-ordinal2 .ensures) ∙ not-true _ (c .before .if2 .taken)))
+returns-2 c =
+    let t = c .before in
+    let s1 = t .before .before in
+    passed Image.Refused 9 _ _ (holds (s1 .before .finite-ordinal .ensures) (s1 .if1 .left))
+    (refused Image.Refused 9 _ _ (c .refuse2 .ensures) (fails (t .before .finite-ordinal2 .ensures) (t .if2 .taken)))
 
 interval-of-requires : tie.Need-interval-of-requires
-interval-of-requires c κs = (c .before .before .before .before .pre, record { low = finite-ordinal _ (c .before .before .before .before .pre) _ (sym (c .before .before .before .finite-ordinal .ensures) ∙ not-false _ (c .before .before .if1 .left)); high = finite-ordinal _ (c .before .before .before .before .pre) _ (sym (c .before .finite-ordinal2 .ensures) ∙ not-false _ (c .if2 .left)) })
+interval-of-requires c κs =
+    let s1 = c .before .before in
+    let ok = s1 .before .before .pre in (
+      ok,
+      record {
+        low = finite-ordinal _ ok _ (holds (s1 .before .finite-ordinal .ensures) (s1 .if1 .left));
+        high = finite-ordinal _ ok _ (holds (c .before .finite-ordinal2 .ensures) (c .if2 .left));
+      },
+    )
 
 returns-3 : tie.Need-returns-3
 unfolding movedIn
-returns-3 c = passed Image.Refused 9 _ _ (sym (c .before .before .before .before .finite-ordinal .ensures) ∙ not-false _ (c .before .before .before .if1 .left)) (passed Image.Refused 9 _ _ (sym (c .before .before .finite-ordinal2 .ensures) ∙ not-false _ (c .before .if2 .left)) (ap Image.Is (c .interval-of .ensures)))
+returns-3 c =
+    let s2 = c .before in
+    let s1 = s2 .before .before in
+    passed Image.Refused 9 _ _ (holds (s1 .before .finite-ordinal .ensures) (s1 .if1 .left))
+    (passed Image.Refused 9 _ _ (holds (s2 .before .finite-ordinal2 .ensures) (s2 .if2 .left))
+    (ap Image.Is (c .interval-of .ensures)))
 
 pub moved-in-spec : {M : Type 1} → statement M
 moved-in-spec = tie.close (tie.spec finite-ordinal-requires refuse-requires returns finite-ordinal-requires-2 refuse-requires-2 returns-2 interval-of-requires returns-3)

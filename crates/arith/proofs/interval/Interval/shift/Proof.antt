@@ -1,12 +1,11 @@
 -- `arith::interval::Interval::shift` meets its contract: refusal 1, then the answer in the format. Assumes nothing.
 use mathlib.Core.Path.{sym, ap, _∙_, subst}
 use borrow.Author.Needs.{needs}
-use borrow.Author.Tests.{not-true, not-false}
 use Rattle.arith.specs.declared.interval.Image.the-variants as Image
 use Rattle.arith.specs.declared.format.Format.{Format}
 use Rattle.arith.specs.Formats.{Sound}
 use Rattle.arith.specs.Intervals.{shiftIn, shiftOf}
-use Rattle.arith.proofs.Refusing.{refused, passed}
+use Rattle.arith.proofs.Refusing.{refused, passed, holds, fails}
 use Rattle.arith.proofs.Formats.{sound}
 use Rattle.arith.proofs.interval.Interval.shift.Statement.{statement}
 use Rattle.arith.proofs.interval.Interval.shift.Tie as tie
@@ -19,7 +18,7 @@ refuse-requires c κs = search needs
 
 returns : tie.Need-returns
 unfolding shiftOf
-returns c = refused Image.Refused 1 _ _ (c .refuse .ensures) (sym (c .before .before .known .ensures) ∙ not-true _ (c .before .if1 .taken))
+returns c = let t = c .before in refused Image.Refused 1 _ _ (c .refuse .ensures) (fails (t .before .known .ensures) (t .if1 .taken))
 
 format-of-requires : tie.Need-format-of-requires
 format-of-requires c κs = search needs
@@ -29,7 +28,11 @@ shift-in-requires c κs = subst Sound (sym (c .format-of .ensures)) (sound (c .b
 
 returns-2 : tie.Need-returns-2
 unfolding shiftOf
-returns-2 c = passed Image.Refused 1 _ _ (sym (c .before .before .before .known .ensures) ∙ not-false _ (c .before .before .if1 .left)) (c .shift-in .ensures ∙ ap (λ (F : Format). shiftIn F (c .before .before .before .before .args .self) (c .before .before .before .before .args .c)) (c .before .format-of .ensures))
+returns-2 c =
+    let s1 = c .before .before in
+    let a = s1 .before .before .args in
+    passed Image.Refused 1 _ _ (holds (s1 .before .known .ensures) (s1 .if1 .left))
+    (c .shift-in .ensures ∙ ap (λ (F : Format). shiftIn F (a .self) (a .c)) (c .before .format-of .ensures))
 
 pub shift-spec : {M : Type 1} → statement M
 shift-spec = tie.close (tie.spec known-requires refuse-requires returns format-of-requires shift-in-requires returns-2)
