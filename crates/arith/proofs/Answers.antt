@@ -1,6 +1,6 @@
 -- Step 3 of the forward sum: from the rounded exact sum to the ordinal, its range test and its mark. Rests on `ladder`'s laws of rounding.
 use mathlib.Core.Path.{_≡_, refl, sym, ap, ap₂, _∙_}
-use mathlib.Core.Logic.{_⊎_, inl, inr}
+use mathlib.Core.Logic.{inl, inr}
 use mathlib.Core.Bool.{Bool, true, false, cond, _&&_}
 use Prim.Native.Nat.{ℕ, _+_, _-_, min, _≤_, _<_}
 use native.Mathlib.Omega.{arith}
@@ -18,7 +18,6 @@ use Rattle.ladder.proofs.Sum.{round-zero}
 use Rattle.arith.specs.declared.format.Format.{Format}
 use Rattle.arith.specs.declared.exact.Exact.{Exact}
 use Rattle.arith.specs.declared.rounding.Rounded.{Rounded}
-use Rattle.arith.specs.declared.sum.Sum.{Sum}
 use Rattle.arith.specs.declared.sum.Sum.the-variants.{Is, Refused}
 use Rattle.arith.specs.Refusals.{refusal}
 use Rattle.arith.specs.Formats.{Sound, Finite, pattern, sum}

@@ -1,17 +1,15 @@
 -- Step 1 of the forward sum: magnitudes taken apart and the exact sum of two, with nothing lost. Assumes nothing.
 use mathlib.Core.Path.{_≡_, refl, sym, ap, ap₂, _∙_, subst}
-use mathlib.Core.Logic.{_⊎_, inl, inr}
+use mathlib.Core.Logic.{inl, inr}
 use mathlib.Core.Bool.{Bool, true, false, not, cond, Bool·beq}
-use Prim.Native.Nat.{ℕ, zero, suc, _+_, _-_, _*_, _/_, _%_, _^_, _≤_, _<_}
-use native.Mathlib.Nat.{mod-lt, div-add-mod', div-mul-le-self, le-of-mul-le-mul-right, mul-le-mul-right, mul-sub, mul-comm}
+use Prim.Native.Nat.{ℕ, _+_, _-_, _*_, _/_, _^_, _≤_, _<_}
+use native.Mathlib.Nat.{div-mul-le-self, le-of-mul-le-mul-right, mul-le-mul-right, mul-sub, mul-comm}
 use native.Mathlib.Omega.{arith}
-use lib.Pow.{pow-pos, pow-add, shr-mono}
+use lib.Pow.{pow-pos, pow-add}
 use lib.Dec.{ltb}
 use borrow.Author.Tests.{lt-ltb, le-ltb}
 use Rattle.ladder.specs.Magnitude.{magnitude, shift, significand}
-use Rattle.ladder.specs.Ordinal as L
 use Rattle.ladder.specs.Ordinal.{above, below}
-use Rattle.ladder.specs.Sum.{gains, losses}
 use Rattle.ladder.proofs.Cases.{le-or-lt}
 use Rattle.ladder.proofs.Magnitude.{parts, magnitude-parts, shift-le, magnitude-le}
 use Rattle.ladder.proofs.Ordinals.{infinity-lt-sign, above-none, below-none}

@@ -1,8 +1,6 @@
 -- The ends of an interval, of a cut and of a mirror are finite. Rests on `ladder`'s laws of ordinals.
 use mathlib.Core.Path.{_≡_, refl, sym, subst}
-use mathlib.Core.Logic.{inl, inr}
 use mathlib.Core.Bool.{Bool, true, false, _&&_, true≢false}
-use Prim.Native.Nat.{ℕ, _+_, _-_, _*_, min, max, _≤_, _<_}
 use native.Mathlib.Omega.{arith}
 use Rattle.ladder.proofs.Ordinals.{infinity-lt-sign, ordinal-finite}
 use Rattle.arith.specs.declared.format.Format.{Format}

@@ -1,8 +1,8 @@
 -- The rounding of a number of units: an exact one, one by its kept digits and the rest, and one of whose low digits only a sticky bit is kept. Assumes nothing.
-use mathlib.Core.Path.{_≡_, refl, sym, ap, ap₂, _∙_, subst}
-use mathlib.Core.Logic.{_⊎_, inl, inr}
-use mathlib.Core.Bool.{Bool, true, false, cond}
-use Prim.Native.Nat.{ℕ, zero, suc, _+_, _-_, _*_, _/_, _%_, _^_, min, _≤_, _<_, compare, Ordering, Ordering·lt, Ordering·eq, Ordering·gt}
+use mathlib.Core.Path.{_≡_, refl, sym, ap, ap₂, _∙_}
+use mathlib.Core.Logic.{inl, inr}
+use mathlib.Core.Bool.{Bool, true, false}
+use Prim.Native.Nat.{ℕ, suc, _+_, _-_, _*_, _/_, _%_, _^_, _≤_, _<_, compare, Ordering, Ordering·lt, Ordering·eq, Ordering·gt}
 use native.Mathlib.Nat.{mod-lt, div-add-mod', mul-le-mul, mul-le-mul-left, mul-le-mul-right, mul-lt-mul-of-pos-right, mod-eq-zero-of-dvd, pow-succ', mul-pos, lt-of-not-le, not-le-of-lt, lt-of-lt-of-le}
 use native.Mathlib.Omega.{arith}
 use lib.Dec.{eqb}
@@ -19,7 +19,6 @@ use Rattle.ladder.proofs.Magnitude.{magnitude-is}
 use Rattle.ladder.proofs.Rounding.{round-magnitude, even-pow}
 use Rattle.ladder.proofs.Multiples.{magnitude-dvd}
 use Rattle.ladder.proofs.Sticky.{round-sticky, round-scale}
-use Rattle.arith.specs.declared.rounding.Rounded.{Rounded}
 use Rattle.arith.specs.Exacts.{roundingOf}
 
 pub rounding-is : (f n p : ℕ) (b : Bool) → round f n ≡ p → eqb (magnitude f (round f n)) n ≡ b → record { place = p; exact = b } ≡ roundingOf f n

@@ -1,7 +1,7 @@
 -- Numbers in a word of 64 digits: a shift by any amount, and the number of digits by the count of leading zeros. Assumes nothing.
-use mathlib.Core.Path.{_≡_, sym, ap, _∙_}
+use mathlib.Core.Path.{_≡_, sym}
 use mathlib.Core.Logic.{inl, inr}
-use Prim.Native.Nat.{ℕ, zero, suc, _+_, _-_, _*_, _/_, _%_, _^_, _≤_, _<_}
+use Prim.Native.Nat.{ℕ, suc, _+_, _*_, _/_, _%_, _^_, _≤_, _<_}
 use native.Mathlib.Nat.{le-antisymm, lt-of-lt-of-le, div-eq-of-lt, mod-eq-of-lt, div-add-mod', pow-succ'}
 use native.Mathlib.Omega.{arith}
 use lib.Pow.{pow-mono, pow-lt}

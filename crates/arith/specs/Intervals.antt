@@ -10,7 +10,7 @@ use Rattle.arith.specs.declared.interval.Cut.the-variants.{Shared, Empty
 use Rattle.arith.specs.declared.interval.Cut.the-variants as Cut
 use Rattle.arith.specs.declared.interval.Image.{Image}
 use Rattle.arith.specs.declared.interval.Image.the-variants as Image
-use Rattle.arith.specs.Refusals.{refusal, orRefuse}
+use Rattle.arith.specs.Refusals.{orRefuse}
 use Rattle.arith.specs.Formats.{isKnown, formatOf, isFinite, ordinal, pattern, Finite, sum, mirrored}
 use Rattle.arith.specs.Sums.{isFiniteOrdinal}
 

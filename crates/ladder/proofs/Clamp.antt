@@ -1,13 +1,12 @@
 -- The clamp: where B is above zero and none of its values is a multiple of 2^k, no operand lies 2^(k + f) units or more below zero, since both would then be multiples of 2^k, and so their sum.
 -- For B below zero the same holds of the mirrored intervals. Assumes nothing.
-use mathlib.Core.Path.{_≡_, ap, _∙_, subst}
+use mathlib.Core.Path.{_≡_, ap, subst}
 use mathlib.Core.Logic.{inl, inr}
-use Prim.Native.Nat.{ℕ, _+_, _-_, _*_, _^_, _≤_, _<_, _∣_, max}
+use Prim.Native.Nat.{ℕ, _+_, _-_, _*_, _^_, _≤_, _<_, _∣_}
 use native.Mathlib.Nat.{dvd-sub}
 use native.Mathlib.Omega.{arith}
 use lib.Pow.{pow-pos}
 use Rattle.ladder.specs.Magnitude.{magnitude}
-use Rattle.ladder.specs.Rounding.{round}
 use Rattle.ladder.specs.Ordinal.{sign, infinity, above, below, mirrored, Finite}
 use Rattle.ladder.specs.Sum.{gains, losses, sum}
 use Rattle.ladder.specs.Solution.{Interval, In, Solution}

@@ -1,10 +1,8 @@
 -- The least and the greatest number with a property: closed in on from both sides, read off in a mirror, and together the ends of an interval. Assumes nothing.
-use mathlib.Core.Path.{_≡_}
 use mathlib.Core.Logic.{inl, inr}
-use Prim.Native.Nat.{ℕ, suc, _+_, _-_, _*_, _≤_, _<_}
+use Prim.Native.Nat.{ℕ, _+_, _-_, _≤_}
 use native.Mathlib.Nat.{le-trans}
 use native.Mathlib.Omega.{arith}
-use Rattle.ladder.specs.Solution.{Interval, In}
 use Rattle.ladder.specs.Narrowing.{Spans}
 use Rattle.ladder.specs.Search.{Never, Least, Greatest, Bracket}
 use Rattle.ladder.proofs.Cases.{le-or-lt}

@@ -1,12 +1,12 @@
 -- The search for the least x in a triple: each turn looks at the frontier x, and finds the triple, or that there is none, or a higher frontier that jumps over no triple. Only that the sum is
 -- monotone and commutative is used. Assumes nothing.
-use mathlib.Core.Path.{_≡_, refl, subst}
+use mathlib.Core.Path.{refl, subst}
 use mathlib.Core.Logic.{inl, inr}
-use Prim.Native.Nat.{ℕ, _+_, _-_, _≤_, _<_}
-use native.Mathlib.Nat.{le-refl, le-trans, not-le-of-lt}
+use Prim.Native.Nat.{ℕ, _-_, _≤_, _<_}
+use native.Mathlib.Nat.{le-refl, le-trans}
 use native.Mathlib.Omega.{arith}
 use Rattle.ladder.specs.Sum.{sum}
-use Rattle.ladder.specs.Solution.{Interval, In, Solution}
+use Rattle.ladder.specs.Solution.{Interval}
 use Rattle.ladder.specs.Narrowing.{HasX}
 use Rattle.ladder.specs.Search.{Never, Least, Attains, Frontier, Leading}
 use Rattle.ladder.proofs.Cases.{le-or-lt}

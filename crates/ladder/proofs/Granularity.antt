@@ -1,13 +1,13 @@
 -- Which powers of two divide no value of a run of m: more than the upper value has digits, or, inside one binade, the digits in which the number before the lowest significand and the highest differ. Assumes nothing.
-use mathlib.Core.Path.{_≡_, sym, ap, ap₂, _∙_, subst}
+use mathlib.Core.Path.{_≡_, sym, ap, _∙_, subst}
 use mathlib.Core.Logic.{inl, inr}
-use Prim.Native.Nat.{ℕ, suc, _+_, _-_, _*_, _/_, _%_, _^_, _≤_, _<_, _∣_}
-use native.Mathlib.Nat.{le-refl, le-of-dvd, le-div-iff-mul-le, div-lt-iff-lt-mul, div-add-mod', mod-lt, dvd-of-mul-dvd-mul-right, mod-eq-zero-of-dvd}
+use Prim.Native.Nat.{ℕ, _+_, _-_, _*_, _/_, _^_, _≤_, _<_, _∣_}
+use native.Mathlib.Nat.{le-refl, le-of-dvd, le-div-iff-mul-le, div-lt-iff-lt-mul, div-add-mod', dvd-of-mul-dvd-mul-right, mod-eq-zero-of-dvd}
 use native.Mathlib.Omega.{arith}
 use lib.Pow.{pow-pos, pow-add}
-use Rattle.ladder.specs.Magnitude.{magnitude, shift, significand}
+use Rattle.ladder.specs.Magnitude.{magnitude}
 use Rattle.ladder.specs.Search.{NoMultiple}
-use Rattle.ladder.proofs.Magnitude.{magnitude-lt, magnitude-low, magnitude-high, magnitude-is, parts, Counted}
+use Rattle.ladder.proofs.Magnitude.{magnitude-lt, magnitude-high, magnitude-is, Counted}
 
 -- between u and v, which agree but for j digits, lies no multiple of 2^j
 gapless : (u v s j : ℕ) → u / 2 ^ j ≡ v / 2 ^ j → u < s → s ≤ v → 2 ^ j ∣ s → ⊥

@@ -1,12 +1,11 @@
 -- Rounding as the kit's lib.Ieee, its account of IEEE 754, has it for `f32` and `f64`: the bits of a rounded number of units are our m, or infinity's. Assumes nothing.
-use mathlib.Core.Path.{_≡_, refl, sym, ap, ap₂, _∙_, subst}
+use mathlib.Core.Path.{_≡_, refl, sym, ap, ap₂, _∙_}
 use mathlib.Core.Logic.{inl, inr}
-use mathlib.Core.Bool.{Bool, true, false, not, cond}
-use Prim.Native.Nat.{ℕ, zero, suc, _+_, _-_, _*_, _/_, _%_, _^_, min, _≤_, _<_, compare}
-use native.Mathlib.Nat.{le-refl, le-antisymm, mul-div-cancel, pow-succ', pow-suc}
+use mathlib.Core.Bool.{Bool, cond}
+use Prim.Native.Nat.{ℕ, suc, _+_, _-_, _*_, _/_, _%_, _^_, min, _≤_, compare}
+use native.Mathlib.Nat.{le-refl, mul-div-cancel, pow-succ'}
 use native.Mathlib.Omega.{arith}
-use lib.IntN.{ℤ}
-use lib.Dec.{T, ltb}
+use lib.Dec.{ltb}
 use lib.Arith.{le→nltb}
 use lib.Pow.{pow-pos, pow-add}
 use lib.Ieee.{Float, nan, inf, fin, Format, prec, emax, low, up, down, size, odd, units, hid, ones, top, toBits}

@@ -1,5 +1,5 @@
 -- The exact value of m: it counts q * 2^k in the binade of step 2^k, up to and with the next binade's first m, and grows strictly with m. Assumes nothing.
-use mathlib.Core.Path.{_≡_, refl, sym, ap, _∙_, subst}
+use mathlib.Core.Path.{_≡_, refl, ap, _∙_, subst}
 use mathlib.Core.Logic.{_⊎_, inl, inr}
 use Prim.Native.Nat.{ℕ, zero, suc, _+_, _-_, _*_, _/_, _%_, _^_, _≤_, _<_}
 use native.Mathlib.Nat.{eq-or-lt-of-le, le-of-suc-le-suc, mod-lt, div-add-mod', not-suc-le-zero, lt-trans, pow-succ', le-of-eq, le-of-lt, lt-of-not-le, not-le-of-lt}

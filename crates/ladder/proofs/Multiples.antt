@@ -1,8 +1,8 @@
 -- Multiples of a power of two: what divides a number of units divides what it rounds to, and a large value is a multiple. Assumes nothing.
-use mathlib.Core.Path.{_≡_, refl, sym, ap, _∙_, subst}
+use mathlib.Core.Path.{_≡_, sym, ap, _∙_, subst}
 use mathlib.Core.Logic.{inl, inr}
 use Prim.Native.Nat.{ℕ, suc, _+_, _-_, _*_, _^_, _%_, _≤_, _<_, _∣_}
-use native.Mathlib.Nat.{dvd-mul-left, dvd-mul-left-of-dvd, dvd-trans, dvd-add, mod-eq-zero-of-dvd, mul-le-mul-right, pow-succ', le-trans, le-of-eq, lt-of-lt-of-le, not-le-of-lt, mul-lt-mul-of-pos-right}
+use native.Mathlib.Nat.{dvd-mul-left, dvd-mul-left-of-dvd, dvd-trans, dvd-add, mod-eq-zero-of-dvd, mul-le-mul-right, pow-succ', mul-lt-mul-of-pos-right}
 use native.Mathlib.Omega.{arith}
 use lib.Arith.{digits-mod}
 use lib.Pow.{pow-add, pow-pos, pow-mono}
@@ -10,7 +10,7 @@ use Rattle.ladder.specs.Magnitude.{magnitude, shift, significand}
 use Rattle.ladder.specs.Rounding.{round}
 use Rattle.ladder.proofs.Cases.{le-or-lt}
 use Rattle.ladder.proofs.Magnitude.{parts, magnitude-parts}
-use Rattle.ladder.proofs.Rounding.{Floor, floor, exact, half}
+use Rattle.ladder.proofs.Rounding.{floor, exact, half}
 
 pow-dvd : (j k : ℕ) → j ≤ k → 2 ^ j ∣ 2 ^ k
 pow-dvd j k h = subst (λ (x : ℕ). 2 ^ j ∣ x) (sym (pow-add 2 (k - j) j) ∙ ap (λ (x : ℕ). 2 ^ x) (omega arith)) (dvd-mul-left (2 ^ j) (2 ^ (k - j)))

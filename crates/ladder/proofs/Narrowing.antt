@@ -3,7 +3,7 @@ use mathlib.Core.Path.{_≡_, ap, ap₂, _∙_, subst}
 use Prim.Native.Nat.{ℕ}
 use lib.Dec.{T, eqb, eqb→eq, eqb-refl}
 use Rattle.ladder.specs.Sum.{sum}
-use Rattle.ladder.specs.Solution.{Interval, In, Solution}
+use Rattle.ladder.specs.Solution.{Interval}
 use Rattle.ladder.specs.Narrowing.{anyIn, Extent, empty, over, xExtent, aExtent, bExtent, Narrowing, none, ends, gather, narrowing, HasX, HasA, HasB, IsNarrowing}
 use Rattle.ladder.proofs.Extents.{some-in, any-in, IsExtent, extent-in, extent-unique}
 

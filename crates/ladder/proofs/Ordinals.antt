@@ -1,16 +1,13 @@
 -- Patterns and ordinals: a finite pattern's ordinal is finite, one leads back to the other, and the order of ordinals is the order of values, so that a value determines its ordinal. Assumes nothing.
-use mathlib.Core.Path.{_≡_, refl, sym, ap, _∙_}
+use mathlib.Core.Path.{_≡_, sym, ap, _∙_}
 use mathlib.Core.Logic.{_↔_, inl, inr}
-use mathlib.Core.Bool.{Bool, true, false, cond}
-use Prim.Native.Nat.{ℕ, _+_, _-_, _*_, _^_, _%_, _≤_, _<_}
-use native.Mathlib.Nat.{le-antisymm, lt-of-not-le, not-le-of-lt}
+use mathlib.Core.Bool.{true}
+use Prim.Native.Nat.{ℕ, _+_, _-_, _*_, _^_, _≤_, _<_}
 use native.Mathlib.Omega.{arith}
-use lib.Dec.{ltb, eqb}
 use lib.Pow.{pow-pos, pow-add}
 use borrow.Author.Tests.{lt-ltb, le-ltb, eq-eqb, ne-eqb, ltb-true}
-use Rattle.ladder.specs.Magnitude.{magnitude}
 use Rattle.ladder.specs.Ordinal.{sign, infinity, isFinite, ordinal, pattern, canonical, Finite, above, below}
-use Rattle.ladder.proofs.Cases.{le-or-lt, equal-or-not, trichotomy}
+use Rattle.ladder.proofs.Cases.{le-or-lt, trichotomy}
 use Rattle.ladder.proofs.Magnitude.{magnitude-lt, magnitude-le, magnitude-zero}
 use Rattle.ladder.proofs.Rounding.{even-pow}
 

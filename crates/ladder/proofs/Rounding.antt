@@ -1,15 +1,14 @@
 -- Rounding is monotone, undoes the exact value, and takes a number of units to the nearest m, at a tie to the even one. All of it rests on `floor`: the m at or just below the number, one ulp,
 -- the rest, and which side rounding takes. Assumes nothing.
-use mathlib.Core.Path.{_≡_, refl, sym, ap, _∙_, subst}
-use mathlib.Core.Logic.{_⊎_, _≢_, _↔_, inl, inr}
+use mathlib.Core.Path.{_≡_, refl, sym, ap, _∙_}
+use mathlib.Core.Logic.{_⊎_, _≢_, inl, inr}
 use Prim.Native.Nat.{ℕ, zero, suc, _+_, _-_, _*_, _/_, _%_, _^_, _≤_, _<_, compare, Ordering, Ordering·lt, Ordering·eq, Ordering·gt}
-use native.Mathlib.Nat.{eq-or-lt-of-le, le-refl, le-of-suc-le-suc, mod-lt, div-add-mod', not-suc-le-zero, pow-succ', le-of-eq, le-trans, le-div-iff-mul-le, lt-of-lt-of-le, lt-of-le-of-lt}
+use native.Mathlib.Nat.{eq-or-lt-of-le, le-refl, le-of-suc-le-suc, mod-lt, div-add-mod', not-suc-le-zero, pow-succ', le-of-eq, le-trans, le-div-iff-mul-le}
 use native.Mathlib.Omega.{arith}
 use lib.Pow.{pow-pos, pow-add}
-use lib.Ieee.{size, nearest}
+use lib.Ieee.{nearest}
 use lib.Ieee.Digits.{size-reaches}
 use lib.Ieee.Fits.{kept-lt}
-use lib.Ieee.Nearest.{closest}
 use Rattle.ladder.specs.Magnitude.{magnitude}
 use Rattle.ladder.specs.Rounding.{excess, round}
 use Rattle.ladder.specs.Nearest.{distance}

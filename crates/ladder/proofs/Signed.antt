@@ -1,11 +1,10 @@
 -- The central law of rounding in its signed form: an ordinal b is at most the rounded p - n units exactly when twice p - n is at least the sum of the values of b and its lower neighbour,
 -- which is twice their midpoint, and the midpoint itself goes up only to an even b. Assumes nothing.
-use mathlib.Core.Path.{_≡_, ap, _∙_}
+use mathlib.Core.Path.{_≡_, ap}
 use mathlib.Core.Logic.{_↔_, inl, inr}
-use Prim.Native.Nat.{ℕ, suc, _+_, _-_, _*_, _^_, _%_, min, _≤_, _<_}
+use Prim.Native.Nat.{ℕ, suc, _+_, _-_, _*_, _%_, _≤_, _<_}
 use native.Mathlib.Omega.{arith}
 use Rattle.ladder.specs.Magnitude.{magnitude}
-use Rattle.ladder.specs.Rounding.{round}
 use Rattle.ladder.specs.Ordinal.{sign, infinity, above, below}
 use Rattle.ladder.specs.Sum.{rounded, gains, losses, sum}
 use Rattle.ladder.proofs.Cases.{le-or-lt}

@@ -1,12 +1,12 @@
 -- Triples under a change of the intervals: the operands swapped, all three mirrored, and other intervals that hold the same triples. Assumes nothing.
-use mathlib.Core.Path.{_≡_, sym, ap, _∙_}
-use Prim.Native.Nat.{ℕ, _+_, _-_, _*_, _≤_, _<_}
+use mathlib.Core.Path.{ap, _∙_}
+use Prim.Native.Nat.{ℕ, _*_, _≤_}
 use native.Mathlib.Omega.{arith}
-use Rattle.ladder.specs.Ordinal.{sign, infinity, mirrored, Finite}
+use Rattle.ladder.specs.Ordinal.{sign, mirrored, Finite}
 use Rattle.ladder.specs.Sum.{sum}
 use Rattle.ladder.specs.Solution.{Interval, In, Solution}
 use Rattle.ladder.specs.Narrowing.{HasX, HasA, HasB, Spans}
-use Rattle.ladder.specs.Search.{Never, Least, Leading, Bounded, reflection}
+use Rattle.ladder.specs.Search.{Leading, Bounded, reflection}
 use Rattle.ladder.proofs.Ordinals.{infinity-lt-sign}
 use Rattle.ladder.proofs.Sum.{sum-comm, sum-mirror}
 

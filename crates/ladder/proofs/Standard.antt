@@ -1,24 +1,24 @@
 -- The sum is the one of the kit's account of IEEE 754, lib.Ieee's `add`, which `f32` and `f64` have: for two finite patterns the ordinal of its bits is the sum of their ordinals, overflow included.
 -- Assumes nothing.
 use mathlib.Core.Path.{_≡_, refl, sym, ap, ap₂, _∙_, subst}
-use mathlib.Core.Logic.{_⊎_, inl, inr}
-use mathlib.Core.Bool.{Bool, true, false, not, cond, _&&_, Bool·beq}
+use mathlib.Core.Logic.{inl, inr}
+use mathlib.Core.Bool.{Bool, true, false, cond, _&&_, Bool·beq}
 use Prim.Native.Nat.{ℕ, zero, suc, _+_, _-_, _*_, _/_, _%_, _^_, min, _≤_, _<_}
-use native.Mathlib.Nat.{lt-of-mul-lt-mul-right, mul-lt-mul-of-pos-right, mul-sub, mul-pos, mul-comm, add-mod-left, mod-eq-of-lt, mul-add-mod-self-left, div-lt-iff-lt-mul, zero-lt-suc, mod-lt}
+use native.Mathlib.Nat.{lt-of-mul-lt-mul-right, mul-lt-mul-of-pos-right, mul-sub, mul-pos, mul-comm, add-mod-left, mod-eq-of-lt, mul-add-mod-self-left, div-lt-iff-lt-mul}
 use native.Mathlib.Omega.{arith}
-use lib.Dec.{T, leb, ltb, eqb, ltb→lt, lt→ltb, nltb→le, leb→le, le→leb, not-T, eqb→eq}
+use lib.Dec.{leb, ltb, eqb, lt→ltb, le→leb, not-T, eqb→eq}
 use lib.Arith.{le→nltb, lt→nleb}
-use lib.Pow.{pow-pos, pow-add}
+use lib.Pow.{pow-pos}
 use lib.Ieee as I
-use lib.Ieee.{Float, nan, inf, fin, Format, binary32, binary64, prec, emax, low, up, down, odd, hid, ones, top, ofFields, ofBits, toBits, add}
-use lib.Ieee.Fits.{two, reach, down-pos}
+use lib.Ieee.{Float, nan, inf, fin, Format, binary32, binary64, prec, low, up, down, odd, hid, ones, top, ofFields, ofBits, toBits, add}
+use lib.Ieee.Fits.{two, down-pos}
 use lib.Ieee.Bits.{cond-no, is-true, is-false}
 use lib.Ieee.Exact.{HasValue, odd-sign}
 use lib.Ieee.Scale.{round-same}
 use Rattle.ladder.specs.Magnitude.{scaled, magnitude}
 use Rattle.ladder.specs.Rounding.{round}
 use Rattle.ladder.specs.Ordinal.{sign, infinity, isFinite, ordinal, above, below}
-use Rattle.ladder.specs.Sum.{rounded, gains, losses, sum}
+use Rattle.ladder.specs.Sum.{rounded, sum}
 use Rattle.ladder.proofs.Cases.{le-or-lt}
 use Rattle.ladder.proofs.Ordinals.{infinity-lt-sign, finite-low, finite-high, ordinal-low, ordinal-high, above-none, below-none}
 use Rattle.ladder.proofs.Sum.{rounded-up, rounded-down}

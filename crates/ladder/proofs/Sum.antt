@@ -1,13 +1,13 @@
 -- The sum of two ordinals is commutative, monotone in each operand and mirrored; rounding p - n units gives back a value that has an ordinal, and so a sum with zero. Assumes nothing.
-use mathlib.Core.Path.{_≡_, refl, sym, ap, ap₂, _∙_}
+use mathlib.Core.Path.{_≡_, sym, ap, ap₂, _∙_}
 use mathlib.Core.Logic.{inl, inr}
-use Prim.Native.Nat.{ℕ, _+_, _-_, _*_, _^_, min, _≤_, _<_}
+use Prim.Native.Nat.{ℕ, _+_, _-_, _*_, min, _≤_}
 use native.Mathlib.Nat.{add-comm}
 use native.Mathlib.Omega.{arith}
 use lib.Pow.{pow-pos}
 use Rattle.ladder.specs.Magnitude.{magnitude}
 use Rattle.ladder.specs.Rounding.{round}
-use Rattle.ladder.specs.Ordinal.{sign, infinity, Finite, above, below, mirrored}
+use Rattle.ladder.specs.Ordinal.{sign, infinity, above, below, mirrored}
 use Rattle.ladder.specs.Sum.{rounded, gains, losses, sum}
 use Rattle.ladder.proofs.Cases.{le-or-lt}
 use Rattle.ladder.proofs.Magnitude.{magnitude-le, magnitude-low}

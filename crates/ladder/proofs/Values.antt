@@ -1,13 +1,12 @@
 -- Every finite pattern leads to its exact value and back to its one written pattern. Assumes nothing.
-use mathlib.Core.Path.{_≡_, refl, sym, ap, ap₂, _∙_}
+use mathlib.Core.Path.{_≡_, sym, ap, _∙_}
 use mathlib.Core.Logic.{inl, inr}
-use mathlib.Core.Bool.{true, cond}
-use Prim.Native.Nat.{ℕ, _+_, _-_, _*_, _≤_, _<_}
+use mathlib.Core.Bool.{true}
+use Prim.Native.Nat.{ℕ, _≤_}
 use native.Mathlib.Omega.{arith}
 use borrow.Author.Tests.{lt-ltb, le-ltb}
 use Rattle.ladder.specs.Magnitude.{magnitude}
-use Rattle.ladder.specs.Ordinal.{sign, infinity, isFinite, ordinal, pattern, canonical, Finite, above, below}
-use Rattle.ladder.specs.Sum.{rounded}
+use Rattle.ladder.specs.Ordinal.{sign, isFinite, ordinal, pattern, above, below}
 use Rattle.ladder.specs.Values.{unitsAbove, unitsBelow, Written}
 use Rattle.ladder.proofs.Cases.{le-or-lt}
 use Rattle.ladder.proofs.Ordinals.{infinity-lt-sign, finite-high, ordinal-low, ordinal-high, ordinal-finite, pattern-ordinal, determines, above-none, below-none}

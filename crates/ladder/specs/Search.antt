@@ -1,6 +1,5 @@
 -- What the search for the ends of a narrowing finds on its way, each by what holds of it: the least number with a property, the least operand with a sum of at least b, the least x in a triple.
 -- Also the two images of an interval that the search uses: its mirror, and the interval without what is too coarse. Assumes nothing.
-use mathlib.Core.Path.{_≡_}
 use Prim.Native.Nat.{ℕ, _+_, _-_, _*_, _^_, _≤_, _∣_, max}
 use Rattle.ladder.specs.Magnitude.{magnitude}
 use Rattle.ladder.specs.Ordinal.{sign, mirrored, Finite}

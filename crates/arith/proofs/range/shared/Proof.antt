@@ -1,7 +1,6 @@
 -- `arith::range::shared` meets its contract. Assumes nothing.
 use mathlib.Core.Path.{ap₂}
 use Prim.Native.Nat.{ℕ}
-use Rattle.arith.specs.declared.range.Range.{Range}
 use borrow.Author.Needs.{needs}
 use Rattle.arith.proofs.range.shared.Statement.{statement}
 use Rattle.arith.proofs.range.shared.Tie as tie

@@ -1,8 +1,8 @@
 -- `arith::rounding::round_long` meets its contract. Assumes nothing.
 use borrow.Author.Needs.{needs}
 use native.Mathlib.Omega.{arith}
-use Prim.Native.Nat.{_+_, _-_, _≤_, _<_, _%_}
-use mathlib.Core.Path.{_≡_, sym}
+use Prim.Native.Nat.{_-_}
+use mathlib.Core.Path.{sym}
 use lib.Arith.{lt-of-le-ne}
 use Rattle.arith.proofs.Shifting.{pow-word}
 use Rattle.arith.proofs.Roundings.{long-fits, long-down, long-tie, long-up}

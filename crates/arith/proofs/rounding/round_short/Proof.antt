@@ -1,9 +1,8 @@
 -- `arith::rounding::round_short` meets its contract: no digit is lost. Assumes nothing.
 use borrow.Author.Needs.{needs}
 use native.Mathlib.Omega.{arith}
-use Prim.Native.Nat.{_+_, _-_, _≤_, _<_}
+use Prim.Native.Nat.{_+_, _-_}
 use mathlib.Core.Path.{_≡_}
-use lib.Ieee.{size}
 use Rattle.arith.proofs.Roundings.{short-zero, short-low, short-high, short-fits}
 use Rattle.arith.proofs.rounding.round_short.Statement.{statement}
 use Rattle.arith.proofs.rounding.round_short.Tie as tie

@@ -1,7 +1,7 @@
 -- `arith::rounding::scale` meets its contract: a narrow gap by `scale-near`, a wide one by `scale-far`. Assumes nothing.
 use borrow.Author.Needs.{needs}
 use native.Mathlib.Omega.{arith}
-use Prim.Native.Nat.{_-_, _^_, _≤_}
+use Prim.Native.Nat.{_-_, _≤_}
 use lib.Pow.{shr-le, pow-pos}
 use native.Mathlib.Nat.{mul-le-mul-left}
 use Rattle.arith.proofs.Jamming.{few, near-fits, scale-near, far-fits, far-order, scale-far}

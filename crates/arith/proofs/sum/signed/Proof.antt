@@ -1,5 +1,4 @@
 -- `arith::sum::signed` meets its contract. Assumes nothing.
-use borrow.Author.Needs.{needs}
 use native.Mathlib.Omega.{arith}
 use Rattle.arith.proofs.Formats.{infinity-lt}
 use Rattle.arith.proofs.sum.signed.Statement.{statement}
