@@ -1,0 +1,248 @@
+// Cut, shift, mirror and canonical patterns of intervals, with each refusal and its order.
+use crate::print::put_number;
+use crate::print::put_pattern;
+use crate::print::put_text;
+use crate::print::put_verdict;
+use arith::interval::Cut;
+use arith::interval::Image;
+use arith::interval::Interval;
+
+// An answer in numbers: an interval, nothing shared, or a refusal with its place.
+struct Reply {
+    refusal: u64,
+    place: u64,
+    empty: bool,
+    low: u64,
+    high: u64,
+}
+
+fn refused(refusal: u64) -> Reply {
+    refused_at(refusal, 0)
+}
+
+fn refused_at(refusal: u64, place: u64) -> Reply {
+    Reply {
+        refusal,
+        place,
+        empty: false,
+        low: 0,
+        high: 0,
+    }
+}
+
+fn nothing() -> Reply {
+    Reply {
+        refusal: 0,
+        place: 0,
+        empty: true,
+        low: 0,
+        high: 0,
+    }
+}
+
+fn span(low: u64, high: u64) -> Reply {
+    Reply {
+        refusal: 0,
+        place: 0,
+        empty: false,
+        low,
+        high,
+    }
+}
+
+fn cut_reply(answer: Cut) -> Reply {
+    match answer {
+        Cut::Shared(i) => span(i.low, i.high),
+        Cut::Empty => nothing(),
+        Cut::Refused(r) => refused_at(r.number, r.place),
+    }
+}
+
+fn image_reply(answer: Image) -> Reply {
+    match answer {
+        Image::Is(i) => span(i.low, i.high),
+        Image::Refused(r) => refused_at(r.number, r.place),
+    }
+}
+
+fn equal(r: Reply, s: Reply) -> bool {
+    if r.refusal != s.refusal {
+        return false;
+    }
+    if r.place != s.place {
+        return false;
+    }
+    if r.empty != s.empty {
+        return false;
+    }
+    if r.low != s.low {
+        return false;
+    }
+    r.high == s.high
+}
+
+fn put_reply(width: u64, r: Reply) {
+    if r.refusal != 0 {
+        put_text(b" refused");
+        put_number(r.refusal);
+        return;
+    }
+    if r.empty {
+        put_text(b" = nothing");
+        return;
+    }
+    put_text(b" =");
+    put_pattern(width, r.low);
+    put_pattern(width, r.high);
+}
+
+// The rest of a line: the answer, and whether it is the one expected.
+fn conclude(width: u64, got: Reply, expected: Reply) {
+    put_reply(width, got);
+    put_verdict(equal(got, expected));
+}
+
+fn put_interval(width: u64, i: Interval) {
+    put_pattern(width, i.low);
+    put_pattern(width, i.high);
+}
+
+fn interval(low: u64, high: u64) -> Interval {
+    Interval { low, high }
+}
+
+fn read_cut(width: u64, i: Interval, j: Interval, expected: Reply) {
+    put_text(b"cut");
+    put_number(width);
+    put_interval(width, i);
+    put_interval(width, j);
+    conclude(width, cut_reply(i.cut(width, j)), expected);
+}
+
+fn read_shift(width: u64, i: Interval, c: u64, expected: Reply) {
+    put_text(b"shift");
+    put_number(width);
+    put_interval(width, i);
+    put_pattern(width, c);
+    conclude(width, image_reply(i.shift(width, c)), expected);
+}
+
+fn read_mirror(width: u64, i: Interval, expected: Reply) {
+    put_text(b"mirror");
+    put_number(width);
+    put_interval(width, i);
+    conclude(width, image_reply(i.mirror(width)), expected);
+}
+
+fn read_canonical(width: u64, i: Interval, expected: Reply) {
+    put_text(b"canonical");
+    put_number(width);
+    put_interval(width, i);
+    conclude(width, image_reply(i.canonical(width)), expected);
+}
+
+// [1, 3] and [2, 4] share [2, 3], [1, 2] and [3, 4] nothing, and a shared zero has its one pattern.
+fn read_cuts() {
+    read_cut(
+        32,
+        interval(0x3F800000, 0x40400000),
+        interval(0x40000000, 0x40800000),
+        span(0x40000000, 0x40400000),
+    );
+    read_cut(
+        32,
+        interval(0x3F800000, 0x40000000),
+        interval(0x40400000, 0x40800000),
+        nothing(),
+    );
+    read_cut(
+        32,
+        interval(0xBF800000, 0x80000000),
+        interval(0x00000000, 0x3F800000),
+        span(0, 0),
+    );
+    read_cut(
+        16,
+        interval(0x7F800000, 0),
+        interval(0x7F800000, 0),
+        refused(1),
+    );
+    read_cut(
+        32,
+        interval(0x40000000, 0x3F800000),
+        interval(0x40000000, 0x7F800000),
+        refused(2),
+    );
+    read_cut(
+        32,
+        interval(0x3F800000, 0x40000000),
+        interval(0x40000000, 0x3F800000),
+        refused(3),
+    );
+}
+
+// Ends are rounded each by itself: [1, 1 + 2^-52] by 2^-53 becomes [1, 1 + 2^-51].
+fn read_shifts() {
+    read_shift(
+        64,
+        interval(0x3FF0000000000000, 0x3FF0000000000001),
+        0x3CA0000000000000,
+        span(0x3FF0000000000000, 0x3FF0000000000002),
+    );
+    read_shift(
+        64,
+        interval(0xBFF0000000000000, 0x3FF0000000000000),
+        0x3FF0000000000000,
+        span(0x0000000000000000, 0x4000000000000000),
+    );
+    read_shift(65, interval(0, 0), 0, refused(1));
+    read_shift(64, interval(0, 0), 0xFFF0000000000000, refused(2));
+    read_shift(64, interval(1, 0), 0x3FF0000000000000, refused(3));
+    read_shift(
+        64,
+        interval(0, 0x7FEFFFFFFFFFFFFF),
+        0x7C90000000000000,
+        refused(9),
+    );
+    read_shift(
+        64,
+        interval(0xFFEFFFFFFFFFFFFF, 0),
+        0xFC90000000000000,
+        refused(9),
+    );
+}
+
+fn read_mirrors() {
+    read_mirror(
+        64,
+        interval(0xBFF0000000000000, 0x4000000000000000),
+        span(0xC000000000000000, 0x3FF0000000000000),
+    );
+    read_mirror(
+        64,
+        interval(0, 0x3FF0000000000000),
+        span(0xBFF0000000000000, 0),
+    );
+    read_mirror(63, interval(0, 0), refused(1));
+    read_mirror(64, interval(0xFFF0000000000000, 0), refused(2));
+    read_mirror(64, interval(0, 0x8000000000000001), refused(3));
+}
+
+fn read_canonicals() {
+    read_canonical(32, interval(0x80000000, 0x80000000), span(0, 0));
+    read_canonical(
+        32,
+        interval(0xFF7FFFFF, 0x7F7FFFFF),
+        span(0xFF7FFFFF, 0x7F7FFFFF),
+    );
+    read_canonical(31, interval(0, 0), refused(1));
+    read_canonical(32, interval(0, 0x100000000), refused(2));
+    read_canonical(32, interval(0x00000001, 0x80000000), refused(3));
+}
+
+pub(crate) fn read_intervals() {
+    read_cuts();
+    read_shifts();
+    read_mirrors();
+    read_canonicals();
+}
