@@ -6,3 +6,9 @@ pub mod Decoding
 pub mod Roundings
 pub mod Jamming
 pub mod Answers
+pub mod Clamping
+pub mod Probing
+pub mod Bounds
+pub mod Narrowings
+pub mod Callers
+pub mod Floating

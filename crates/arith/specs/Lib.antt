@@ -3,3 +3,6 @@ pub mod Formats
 pub mod Exacts
 pub mod Sums
 pub mod Intervals
+pub mod Searches
+pub mod Narrows
+pub mod Floating

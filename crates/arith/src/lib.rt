@@ -1,10 +1,16 @@
-// Arithmetic on binary floating-point patterns, in integers, one body for every width: the forward sum and intervals. Rests on the crate `ladder`.
+// Arithmetic on binary floating-point patterns, in integers, one body for every width: the forward sum, intervals and the narrowing of one sum. Rests on the crate `ladder`.
+mod clamp;
 mod exact;
+mod extent;
+pub mod floats;
 pub mod format;
 pub mod interval;
+pub mod narrow;
+mod operand;
 mod pattern;
 mod range;
 pub mod refusal;
 mod rounding;
+mod solve;
 pub mod sum;
 mod words;

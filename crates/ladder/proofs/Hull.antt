@@ -20,7 +20,7 @@ in-within w y i = record { low = omega arith; high = omega arith }
 pub within-bounded : {f e : ℕ} {J I : Interval} → Bounded f e J → Within J I → Bounded f e I
 within-bounded n w = record { low = record { low = omega arith; high = omega arith }; high = record { low = omega arith; high = omega arith } }
 
-spans-within : (P : ℕ → Type 0) (J I : Interval) → ((y : ℕ) → P y → In J y) → Spans P I → Within J I
+pub spans-within : (P : ℕ → Type 0) (J I : Interval) → ((y : ℕ) → P y → In J y) → Spans P I → Within J I
 spans-within P J I p s =
     let l = p (I .low) (s .low) in
     let h = p (I .high) (s .high) in

@@ -21,3 +21,5 @@ pub mod Hull
 pub mod Frontier
 pub mod Granularity
 pub mod Clamp
+pub mod LeastSum
+pub mod Assembly

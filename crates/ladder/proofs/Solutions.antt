@@ -6,9 +6,10 @@ use Rattle.ladder.specs.Ordinal.{sign, mirrored, Finite}
 use Rattle.ladder.specs.Sum.{sum}
 use Rattle.ladder.specs.Solution.{Interval, In, Solution}
 use Rattle.ladder.specs.Narrowing.{HasX, HasA, HasB, Spans}
-use Rattle.ladder.specs.Search.{Leading, Bounded, reflection}
+use Rattle.ladder.specs.Search.{Never, Least, Greatest, Leading, Bounded, reflection}
 use Rattle.ladder.proofs.Ordinals.{infinity-lt-sign}
 use Rattle.ladder.proofs.Sum.{sum-comm, sum-mirror}
+use Rattle.ladder.proofs.Extremes.{mirror-never, mirror-greatest}
 
 -- ---- the operands swapped
 pub swap : {f e : ℕ} {X A B : Interval} {x a b : ℕ} → Solution f e X A B x a b → Solution f e A X B a x b
@@ -101,3 +102,16 @@ module _ (f e : ℕ) (some : 1 ≤ f) (X A B : Interval) (nx : Bounded f e X) (n
 
   pub mirrored-b : (y : ℕ) → HasB f e X' A' B' y → HasB f e X A B (mirrored f e y)
   mirrored-b y w = record { x = mirrored f e (w .x); a = mirrored f e (w .a); solution = mirrored-solution (w .x) (w .a) y (w .solution) }
+
+  -- the greatest is the mirror image of the least
+  pub mirror-x-never : Never (HasX f e X' A' B') → Never (HasX f e X A B)
+  mirror-x-never = mirror-never (2 * sign f e) (HasX f e X A B) (HasX f e X' A' B') mirror-x
+
+  pub mirror-x-greatest : (y : ℕ) → Least (HasX f e X' A' B') y → Greatest (HasX f e X A B) (mirrored f e y)
+  mirror-x-greatest = mirror-greatest (2 * sign f e) (HasX f e X A B) (HasX f e X' A' B') mirror-x mirrored-x (λ z w. finite-twice f e z (finite-in f e X nx z (w .solution .x-in)))
+
+  pub mirror-b-never : Never (HasB f e X' A' B') → Never (HasB f e X A B)
+  mirror-b-never = mirror-never (2 * sign f e) (HasB f e X A B) (HasB f e X' A' B') mirror-b
+
+  pub mirror-b-greatest : (y : ℕ) → Least (HasB f e X' A' B') y → Greatest (HasB f e X A B) (mirrored f e y)
+  mirror-b-greatest = mirror-greatest (2 * sign f e) (HasB f e X A B) (HasB f e X' A' B') mirror-b mirrored-b (λ z w. finite-twice f e z (finite-in f e B nb z (w .solution .b-in)))

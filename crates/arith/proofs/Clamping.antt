@@ -1,0 +1,72 @@
+-- The clamp in words: the exponent field of the sum's ends, the digits in which they differ, and the raised end. Assumes nothing.
+use mathlib.Core.Path.{_≡_, refl, sym, ap, _∙_, subst}
+use mathlib.Core.Logic.{inl, inr}
+use Prim.Native.Nat.{ℕ, zero, suc, _+_, _-_, _*_, _/_, _^_, _≤_, _<_, _∣_, max}
+use native.Mathlib.Nat.{le-div-iff-mul-le, div-lt-iff-lt-mul, mul-le-mul-right, not-le-of-lt}
+use native.Mathlib.Omega.{arith}
+use lib.Pow.{pow-pos, pow-mono}
+use Rattle.ladder.specs.Magnitude.{magnitude}
+use Rattle.ladder.specs.Ordinal as L
+use Rattle.ladder.specs.Solution.{Interval}
+use Rattle.ladder.specs.Search.{NoMultiple, raised}
+use Rattle.ladder.proofs.Cases.{le-or-lt}
+use Rattle.ladder.proofs.Granularity.{digits-free, binade-free}
+
+-- q whole binades fit under m
+pub field : (f q m : ℕ) → q ≡ m / 2 ^ f → (q * 2 ^ f ≤ m) × (m < q * 2 ^ f + 2 ^ f)
+field f q m e =
+    let a : q * 2 ^ f ≤ m = le-div-iff-mul-le (pow-pos f) .0 (omega arith) in
+    let b : m < (q + 1) * 2 ^ f = div-lt-iff-lt-mul (pow-pos f) .0 (omega arith) in
+    (a, omega arith)
+
+pub field-half : (f q m : ℕ) → 1 ≤ f → q ≡ m / 2 ^ f → 2 * q ≤ m
+field-half f q m some e = omega (arith, field f q m e .0, native.Mathlib.Nat.mul-le-mul-left q (pow-mono {i = 1} some))
+
+-- a quotient that is left shows that few digits were dropped
+pub few-dropped : (q j : ℕ) → q < 2 ^ 64 → 0 < q / 2 ^ j → j < 64
+few-dropped q j h p = elim (le-or-lt 64 j) [
+  | inl l ↦ absurd (not-le-of-lt (div-lt-iff-lt-mul (pow-pos j) .1 (omega (arith, pow-mono l))) p)
+  | inr l ↦ l
+]
+
+-- the binade below q
+pub base-next : (f q base : ℕ) → (q ≡ 0 → ⊥) → base ≡ (q - 1) * 2 ^ f → base + 2 ^ f ≡ q * 2 ^ f
+base-next f zero base n b = absurd (n refl)
+base-next f (suc q) base n b = omega (arith, ap (λ (x : ℕ). x * 2 ^ f) (before q))
+  where
+    before : (q : ℕ) → suc q - 1 ≡ q
+    before q = omega arith
+
+module _ (f q lo hi : ℕ) (is : q ≡ hi / 2 ^ f) where
+  -- the ends in different binades
+  pub free-wide : 0 < lo → NoMultiple f (f + q) lo hi
+  free-wide p = digits-free f q lo hi p (omega (arith, field f q hi is .1))
+
+  -- both subnormal
+  pub free-low : (j : ℕ) → q ≡ 0 → 0 < lo → (lo - 1) / 2 ^ j ≡ hi / 2 ^ j → NoMultiple f j lo hi
+  free-low j z p e m l h d =
+      let b : hi < 0 * 2 ^ f + 2 ^ f = subst (λ (x : ℕ). hi < x * 2 ^ f + 2 ^ f) z (field f q hi is .1) in
+      binade-free f j 0 lo hi (inl refl) (omega arith) p e m (omega arith) (omega arith) (subst (λ (x : ℕ). 2 ^ x ∣ magnitude f m) (add-none j) d)
+    where
+      add-none : (j : ℕ) → j ≡ j + 0
+      add-none j = omega arith
+
+  -- in one binade, whose significands begin at base
+  pub free-high : (j base : ℕ) → lo / 2 ^ f ≡ q → (q ≡ 0 → ⊥) → base ≡ (q - 1) * 2 ^ f → (lo - base - 1) / 2 ^ j ≡ (hi - base) / 2 ^ j → NoMultiple f (j + (q - 1)) lo hi
+  free-high j base o n b e m l h d =
+      let u = base-next f q base n b in
+      let v = field f q lo (sym o) in
+      let w = field f q hi is in
+      binade-free f j (q - 1) (lo - base) (hi - base) (inr (omega arith)) (omega arith) (omega (arith, pow-pos f)) e m (omega arith) (omega arith) d
+
+-- ---- the raised end
+pub raised-at : (f e k low : ℕ) (I : Interval) → low ≡ max (I .low) (L.sign f e + 1 - (k + 1) * 2 ^ f) → record { low = low; high = I .high } ≡ raised f e k I
+raised-at f e k low I z = ap (λ (x : ℕ). let J : Interval = record { low = x; high = I .high } in J) z
+
+module _ (f e q k : ℕ) (is : q ≡ L.sign f e / 2 ^ f) where
+  -- too far below zero to matter
+  pub raised-none : (I : Interval) → q ≤ k → I ≡ raised f e k I
+  raised-none I l = raised-at f e k (I .low) I (omega (arith, field f q (L.sign f e) is .1, mul-le-mul-right (2 ^ f) l))
+
+  pub raised-fits : k < q → (k + 1) * 2 ^ f ≤ L.sign f e
+  raised-fits l = let t : (k + 1) * 2 ^ f ≤ q * 2 ^ f = mul-le-mul-right (2 ^ f) (omega arith) in omega (arith, field f q (L.sign f e) is .0)

@@ -1,0 +1,69 @@
+// The clamp: a power of two that divides no value of the sum's range, and an operand's range without the values that are all its multiples.
+ghost use mathlib.Core.Path.{_≡_};
+ghost use Prim.Native.Nat.{_/_, _^_, _≤_, _<_};
+ghost use Rattle.ladder.specs.Search.{NoMultiple, raised, lowered};
+ghost use Rattle.arith.specs.Formats.{Sound};
+ghost use Rattle.arith.specs.Exacts.{Fraction};
+ghost use Rattle.arith.specs.Intervals.{Ends};
+ghost use Rattle.arith.specs.Searches.{span};
+use crate::format::Format;
+use crate::range::Range;
+use crate::range::reflect;
+use crate::words::shift_left;
+use crate::words::shift_right;
+
+// How many low digits to drop until p and q agree.
+fn differing(p: u64, q: u64) -> u64
+    requires { ⌜ p ≤ q ⌝ }
+    ensures { λ r. ⌜ (p / 2 ^ r ≡ q / 2 ^ r) × (r ≤ 64) ⌝ }
+{
+    let mut u = p;
+    let mut v = q;
+    let mut j = 0;
+    while u != v {
+        u = u / 2;
+        v = v / 2;
+        j += 1;
+    }
+    j
+}
+
+// A k such that no magnitude from lo to hi is a multiple of 2^k.
+pub(crate) fn granularity(fraction: u64, lo: u64, hi: u64) -> u64
+    requires { ⌜ (Fraction fraction) × (0 < lo) × (lo ≤ hi) ⌝ }
+    ensures { λ k. ⌜ NoMultiple fraction k lo hi ⌝ }
+{
+    let field = shift_right(hi, fraction);
+    if shift_right(lo, fraction) != field {
+        return fraction + field;
+    }
+    if field == 0 {
+        return differing(lo - 1, hi);
+    }
+    let shift = field - 1;
+    let base = shift_left(shift, fraction);
+    differing(lo - base - 1, hi - base) + shift
+}
+
+// The range without the values below zero of 2^(k + fraction) units and more.
+pub(crate) fn raise(format: Format, k: u64, r: Range) -> Range
+    requires { ⌜ Sound format ⌝ }
+    ensures { λ s. ⌜ span s ≡ raised (format .fraction) (format .exponent) k (span r) ⌝ }
+{
+    if shift_right(format.sign, format.fraction) <= k {
+        return r;
+    }
+    let low = format.sign + 1 - shift_left(k + 1, format.fraction);
+    if r.low < low {
+        return Range { low, high: r.high };
+    }
+    r
+}
+
+// The range without the values above zero of that size.
+pub(crate) fn lower(format: Format, k: u64, r: Range) -> Range
+    requires { ⌜ (Sound format) × (Ends format r) ⌝ }
+    ensures { λ s. ⌜ span s ≡ lowered (format .fraction) (format .exponent) k (span r) ⌝ }
+{
+    reflect(format, raise(format, k, reflect(format, r)))
+}

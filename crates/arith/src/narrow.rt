@@ -1,0 +1,121 @@
+// The narrowing of one sum: for x, a and b the least and greatest value standing in a triple.
+ghost use mathlib.Core.Path.{_≡_};
+ghost use Rattle.arith.specs.Formats.{Sound};
+ghost use Rattle.arith.specs.Intervals.{Ends};
+ghost use Rattle.arith.specs.Searches.{narrowingIn, narrowing};
+ghost use Rattle.arith.specs.Narrows.{narrowAnswer, narrowOrdered, narrowIn, narrowOf};
+use crate::extent::Extent;
+use crate::extent::extent_b;
+use crate::extent::extent_x;
+use crate::format::Format;
+use crate::format::format_of;
+use crate::format::known;
+use crate::interval::Interval;
+use crate::interval::ends_finite;
+use crate::interval::interval_of;
+use crate::interval::range_of;
+use crate::range::Range;
+use crate::range::ordered;
+use crate::refusal::Refusal;
+use crate::refusal::refuse;
+
+// The three intervals narrowed, or the refusal.
+pub enum Narrowed {
+    Ends {
+        x: Interval,
+        a: Interval,
+        b: Interval,
+    },
+    Refused(Refusal),
+}
+
+// The three ranges narrowed, or that there is no triple.
+pub(crate) enum Ranges {
+    None,
+    Ends { x: Range, a: Range, b: Range },
+}
+
+// The narrowing of ranges. a is x with the operands swapped; the sums of what is narrowed are those of what was given.
+fn narrow_ranges(format: Format, x: Range, a: Range, b: Range) -> Ranges
+    requires { ⌜ (Sound format) × (Ends format x) × (Ends format a) × (Ends format b) ⌝ }
+    ensures { λ r. ⌜ narrowingIn r ≡ narrowing format x a b ⌝ }
+{
+    let Extent::Over(xs) = extent_x(format, x, a, b) else {
+        return Ranges::None;
+    };
+    let Extent::Over(ys) = extent_x(format, a, x, b) else {
+        return Ranges::None;
+    };
+    let Extent::Over(bs) = extent_b(format, xs, ys, b) else {
+        return Ranges::None;
+    };
+    Ranges::Ends {
+        x: xs,
+        a: ys,
+        b: bs,
+    }
+}
+
+// The answer for three ranges.
+fn narrow_finite(format: Format, x: Range, a: Range, b: Range) -> Narrowed
+    requires { ⌜ (Sound format) × (Ends format x) × (Ends format a) × (Ends format b) ⌝ }
+    ensures { λ r. ⌜ r ≡ narrowAnswer format (narrowing format x a b) ⌝ }
+{
+    match narrow_ranges(format, x, a, b) {
+        Ranges::None => Narrowed::Refused(refuse(11)),
+        Ranges::Ends { x: p, a: q, b: r } => Narrowed::Ends {
+            x: interval_of(format, p),
+            a: interval_of(format, q),
+            b: interval_of(format, r),
+        },
+    }
+}
+
+// The answer for three ranges of finite ordinals; refusals 3 for x, a, b, then 11.
+fn narrow_ordered(format: Format, x: Range, a: Range, b: Range) -> Narrowed
+    requires { ⌜ (Sound format) × (Ends format x) × (Ends format a) × (Ends format b) ⌝ }
+    ensures { λ r. ⌜ r ≡ narrowOrdered format x a b ⌝ }
+{
+    if !ordered(x) {
+        return Narrowed::Refused(refuse(3));
+    }
+    if !ordered(a) {
+        return Narrowed::Refused(refuse(3));
+    }
+    if !ordered(b) {
+        return Narrowed::Refused(refuse(3));
+    }
+    narrow_finite(format, x, a, b)
+}
+
+// The answer in a format; refusals 2 for x, a, b, then 3 and 11.
+fn narrow_in(format: Format, x: Interval, a: Interval, b: Interval) -> Narrowed
+    requires { ⌜ Sound format ⌝ }
+    ensures { λ r. ⌜ r ≡ narrowIn format x a b ⌝ }
+{
+    if !ends_finite(format, x) {
+        return Narrowed::Refused(refuse(2));
+    }
+    if !ends_finite(format, a) {
+        return Narrowed::Refused(refuse(2));
+    }
+    if !ends_finite(format, b) {
+        return Narrowed::Refused(refuse(2));
+    }
+    narrow_ordered(
+        format,
+        range_of(format, x),
+        range_of(format, a),
+        range_of(format, b),
+    )
+}
+
+// The ends of x, a and b that stand in triples; refusals 1, 2 for x, a, b, 3 for x, a, b, 11, in this order.
+pub fn narrow(width: u64, x: Interval, a: Interval, b: Interval) -> Narrowed
+    ensures { λ r. ⌜ r ≡ narrowOf width x a b ⌝ }
+{
+    if !known(width) {
+        return Narrowed::Refused(refuse(1));
+    }
+    narrow_in(format_of(width), x, a, b)
+}

@@ -1,0 +1,72 @@
+// The least operand: the least x of a range whose sum with a is at least b. The sum is monotone, so any probe halves the question; where it is put is a matter of speed alone.
+ghost use Prim.Native.Nat.{_≤_, _<_};
+ghost use Rattle.arith.specs.Formats.{Sound, Finite};
+ghost use Rattle.arith.specs.Intervals.{Ends};
+ghost use Rattle.arith.specs.Searches.{LeastOf, Attains};
+use crate::format::Format;
+use crate::range::Range;
+use crate::range::mirror_of;
+use crate::sum::sum_of;
+
+// The least number asked for, or that there is none.
+pub(crate) enum Found {
+    At(u64),
+    Absent,
+}
+
+// Where the least operand is likely: b less a.
+fn guess(format: Format, a: u64, b: u64) -> u64
+    requires { ⌜ (Sound format) × (Finite format a) × (Finite format b) ⌝ }
+{
+    sum_of(format, b, mirror_of(format, a))
+}
+
+// The next place to look at from low up to, and without, high: at, if it is one of them, else the middle.
+fn probe(low: u64, high: u64, at: u64) -> u64
+    requires { ⌜ low < high ⌝ }
+    ensures { λ r. ⌜ (low ≤ r) × (r < high) ⌝ }
+{
+    if low <= at {
+        if at < high {
+            return at;
+        }
+    }
+    low + (high - low) / 2
+}
+
+// The least operand of a range that is not empty and whose high end is large enough: from the guess in strides that double.
+fn search_operand(format: Format, a: u64, b: u64, r: Range) -> u64
+    requires { ⌜ (Sound format) × (Finite format a) × (Finite format b) × (Ends format r) × (Attains format a b r (r .high)) ⌝ }
+    ensures { λ x. ⌜ LeastOf (Attains format a b r) (Found.At x) ⌝ }
+{
+    let mut low = r.low;
+    let mut high = r.high;
+    let mut at = guess(format, a, b);
+    let mut stride: u64 = 1;
+    while low < high {
+        let p = probe(low, high, at);
+        if sum_of(format, p, a) < b {
+            low = p + 1;
+            at = std::num::wrapping_add_u64(p, stride);
+        } else {
+            high = p;
+            at = std::num::wrapping_sub_u64(p, stride);
+        }
+        stride = std::num::wrapping_add_u64(stride, stride);
+    }
+    high
+}
+
+// The least x of the range with a sum of at least b.
+pub(crate) fn least_operand(format: Format, a: u64, b: u64, r: Range) -> Found
+    requires { ⌜ (Sound format) × (Finite format a) × (Finite format b) × (Ends format r) ⌝ }
+    ensures { λ x. ⌜ LeastOf (Attains format a b r) x ⌝ }
+{
+    if r.high < r.low {
+        return Found::Absent;
+    }
+    if sum_of(format, r.high, a) < b {
+        return Found::Absent;
+    }
+    Found::At(search_operand(format, a, b, r))
+}

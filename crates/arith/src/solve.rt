@@ -1,0 +1,89 @@
+// The least x in a triple, with an a that goes with it. The search starts at the least x that reaches b's low end with a's high end, and jumps from there over what cannot be.
+ghost use Prim.Native.Nat.{_≤_, _<_};
+ghost use Rattle.arith.specs.Formats.{Sound};
+ghost use Rattle.arith.specs.Intervals.{Ends};
+ghost use Rattle.arith.specs.Searches.{Frontier, TurnOf, LeadingOf};
+use crate::clamp::granularity;
+use crate::clamp::lower;
+use crate::clamp::raise;
+use crate::format::Format;
+use crate::operand::Found;
+use crate::operand::least_operand;
+use crate::range::Range;
+use crate::sum::sum_of;
+
+// What one turn finds: an a that goes with x, that there is no triple, or the next x to look at.
+pub(crate) enum Turn {
+    Solved(u64),
+    Ended,
+    Next(u64),
+}
+
+// The least x in a triple with its a, or that there is no triple.
+pub(crate) enum Pair {
+    At { x: u64, a: u64 },
+    Absent,
+}
+
+// One turn at x: the least a that makes the sum large enough may make it too large, and then x is too small for the a below it.
+fn advance(format: Format, at: u64, x: Range, a: Range, b: Range) -> Turn
+    requires { ⌜ (Sound format) × (Ends format x) × (Ends format a) × (Ends format b) × (Frontier format x a b at) ⌝ }
+    ensures { λ r. ⌜ TurnOf format x a b at r ⌝ }
+{
+    if b.high < sum_of(format, at, a.low) {
+        return Turn::Ended;
+    }
+    let Found::At(c) = least_operand(format, at, b.low, a) else {
+        return Turn::Ended;
+    };
+    if sum_of(format, at, c) <= b.high {
+        return Turn::Solved(c);
+    }
+    let rest = Range {
+        low: at,
+        high: x.high,
+    };
+    match least_operand(format, c - 1, b.low, rest) {
+        Found::At(y) => Turn::Next(y),
+        Found::Absent => Turn::Ended,
+    }
+}
+
+// The least x in a triple, turn by turn.
+fn search_x(format: Format, x: Range, a: Range, b: Range) -> Pair
+    requires { ⌜ (Sound format) × (Ends format x) × (Ends format a) × (Ends format b) ⌝ }
+    ensures { λ r. ⌜ LeadingOf format x a b r ⌝ }
+{
+    let Found::At(first) = least_operand(format, a.high, b.low, x) else {
+        return Pair::Absent;
+    };
+    let mut at = first;
+    loop {
+        match advance(format, at, x, a, b) {
+            Turn::Solved(c) => return Pair::At { x: at, a: c },
+            Turn::Ended => return Pair::Absent,
+            Turn::Next(y) => at = y,
+        }
+    }
+}
+
+// The least x in a triple. Where b has one sign, the operands too coarse for it are left out first.
+pub(crate) fn least_x(format: Format, x: Range, a: Range, b: Range) -> Pair
+    requires { ⌜ (Sound format) × (Ends format x) × (Ends format a) × (Ends format b) ⌝ }
+    ensures { λ r. ⌜ LeadingOf format x a b r ⌝ }
+{
+    if b.high < b.low {
+        return Pair::Absent;
+    }
+    let zero = format.sign;
+    let fraction = format.fraction;
+    if zero < b.low {
+        let k = granularity(fraction, b.low - zero, b.high - zero);
+        return search_x(format, raise(format, k, x), raise(format, k, a), b);
+    }
+    if b.high < zero {
+        let k = granularity(fraction, zero - b.high, zero - b.low);
+        return search_x(format, lower(format, k, x), lower(format, k, a), b);
+    }
+    search_x(format, x, a, b)
+}
