@@ -12,3 +12,4 @@ pub mod Bounds
 pub mod Narrowings
 pub mod Callers
 pub mod Floating
+pub mod Placing

@@ -6,3 +6,4 @@ pub mod Intervals
 pub mod Searches
 pub mod Narrows
 pub mod Floating
+pub mod Exports

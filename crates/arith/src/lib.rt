@@ -1,5 +1,6 @@
 // Arithmetic on binary floating-point patterns, in integers, one body for every width: the forward sum, intervals and the narrowing of one sum. Rests on the crate `ladder`.
 mod clamp;
+mod entry;
 mod exact;
 mod extent;
 pub mod floats;

@@ -1,1 +1,3 @@
 pub mod Starred
+pub mod Bounding
+pub mod Narrowings

@@ -1,8 +1,13 @@
 -- The table of 01's starred examples, each as an equation of the definitions. Assumes nothing.
 use mathlib.Core.Path.{_≡_}
+use Prim.Native.Nat.{ℕ}
 use Rattle.arith.specs.declared.sum.Sum.the-variants.{Is, Refused}
+use Rattle.arith.specs.declared.interval.Interval.{Interval}
+use Rattle.arith.specs.declared.narrow.Narrowed.the-variants.{Ends}
+use Rattle.arith.specs.declared.narrow.Narrowed.the-variants as Narrowed
 use Rattle.arith.specs.Refusals.{refusal}
 use Rattle.arith.specs.Sums.{addOf}
+use Rattle.arith.specs.Narrows.{narrowOf}
 
 -- ---- sums
 pub record Sums : Type 0 where
@@ -18,3 +23,38 @@ pub record Sums : Type 0 where
   pub too-large : addOf 64 0x7FEFFFFFFFFFFFFF 0x7C90000000000000 ≡ Refused (refusal 9)
   -- the tie at width 32
   pub tie-32 : addOf 32 0x3F800000 0x33800000 ≡ Is 0x3F800000 1
+
+-- ---- narrowings
+-- an interval, and one of a single float
+abbrev pub interval : ℕ → ℕ → Interval
+interval low high = record { low = low; high = high }
+
+abbrev pub point : ℕ → Interval
+point p = interval p p
+
+-- every finite float, and 1
+abbrev pub all64 : Interval
+all64 = interval 0xFFEFFFFFFFFFFFFF 0x7FEFFFFFFFFFFFFF
+
+abbrev pub one64 : Interval
+one64 = point 0x3FF0000000000000
+
+abbrev pub all32 : Interval
+all32 = interval 0xFF7FFFFF 0x7F7FFFFF
+
+abbrev pub one32 : Interval
+one32 = point 0x3F800000
+
+pub record Narrowings : Type 0 where
+  -- a = b = 1: below 1 floats are twice as dense
+  pub absorbed : narrowOf 64 all64 one64 one64 ≡ Ends (interval 0xBC90000000000000 0x3CA0000000000000) one64 one64
+  pub absorbed-32 : narrowOf 32 all32 one32 one32 ≡ Ends (interval 0xB3000000 0x33800000) one32 one32
+  -- a is 2 or its successor
+  pub gap : narrowOf 64 all64 (interval 0x4000000000000000 0x4000000000000001) one64 ≡ Ends (interval 0xBFF0000000000002 0xBFEFFFFFFFFFFFFF) (interval 0x4000000000000000 0x4000000000000001) one64
+  -- a float between the two ends that fits no triple
+  pub between : narrowOf 64 (point 0xBFF0000000000001) (interval 0x4000000000000000 0x4000000000000001) one64 ≡ Narrowed.Refused (refusal 11)
+  -- every such sum is even
+  pub even : narrowOf 64 (interval 0x4340000000000000 0x4350000000000000) (interval 0xC350000000000000 0xC340000000000000) one64 ≡ Narrowed.Refused (refusal 11)
+  -- document 000's example
+  pub document-000 : narrowOf 64 (interval 0xC630000000000000 0xC330000000000000) (interval 0x3FF0000000000000 0x4630000000000000) (interval 0x3FE0000000000000 0x3FF8000000000000)
+      ≡ Ends (interval 0xC33FFFFFFFFFFFFF 0xC330000000000000) (interval 0x4330000000000001 0x4340000000000000) one64
