@@ -13,3 +13,4 @@ pub mod Narrowings
 pub mod Callers
 pub mod Floating
 pub mod Placing
+pub mod Valid

@@ -1,0 +1,99 @@
+-- What a crate above needs of intervals, so that it opens no definition here: when one is refused, its ordinals, its written form, and the narrowing of three. Rests on `ladder`'s laws of ordinals.
+use mathlib.Core.Path.{_≡_, refl}
+use mathlib.Core.Bool.{Bool, true, false}
+use Prim.Native.Nat.{ℕ, suc, _<_, _≤_}
+use native.Mathlib.Omega.{arith}
+use borrow.Author.Tests.{leb-true, le-leb}
+use Rattle.ladder.specs.Solution as L
+use Rattle.ladder.specs.Search.{Bounded}
+use Rattle.ladder.proofs.Ordinals.{pattern-finite, ordinal-pattern}
+use Rattle.arith.specs.declared.refusal.Refusal.{Refusal}
+use Rattle.arith.specs.declared.interval.Interval.{Interval}
+use Rattle.arith.specs.declared.interval.Image.{Image}
+use Rattle.arith.specs.declared.interval.Image.the-variants.{Is, Refused}
+use Rattle.arith.specs.Refusals.{refusal, orRefuse}
+use Rattle.arith.specs.Formats.{isKnown, formatOf}
+use Rattle.arith.specs.Intervals.{endsFinite, isOrdered, rangeOf, intervalOf, canonicalIn, canonicalOf}
+use Rattle.arith.specs.Searches.{span, narrowing}
+use Rattle.arith.specs.Narrows.{written, narrowAnswer, narrowOf}
+use Rattle.arith.proofs.Intervals.{range-ends}
+use Rattle.arith.proofs.Bounds.{bounded}
+use Rattle.arith.proofs.Callers.{narrow-valid}
+
+-- an interval that none of refusals 1 to 3 is for
+pub record Valid (width : ℕ) (I : Interval) : Type 0 where
+  pub known : isKnown width ≡ true
+  pub finite : endsFinite (formatOf width) I ≡ true
+  pub ordered : isOrdered (rangeOf (formatOf width) I) ≡ true
+
+-- ---- its canonical form
+module _ (width : ℕ) (I : Interval) where
+  pub canonical-is : Valid width I → canonicalOf width I ≡ Is (intervalOf (formatOf width) (rangeOf (formatOf width) I))
+  unfolding canonicalOf canonicalIn
+  canonical-is v = simp (v .known, v .finite, v .ordered)
+
+  data Tried : Image → Type 0 where
+    is : {J : Interval} → Valid width I → Tried (Is J)
+    refused : {n : ℕ} → n < 3 → Tried (Refused (refusal (suc n)))
+
+  tried : Tried (canonicalOf width I)
+  unfolding canonicalOf canonicalIn
+  tried = go (isKnown width) refl (endsFinite (formatOf width) I) refl (isOrdered (rangeOf (formatOf width) I)) refl
+    where
+      go :
+          (k : Bool) → isKnown width ≡ k → (t : Bool) → endsFinite (formatOf width) I ≡ t → (o : Bool) → isOrdered (rangeOf (formatOf width) I) ≡ o →
+          Tried (orRefuse Refused k 1 (orRefuse Refused t 2 (orRefuse Refused o 3 (Is (intervalOf (formatOf width) (rangeOf (formatOf width) I))))))
+      go false p t q o r = refused {n = 0} (omega arith)
+      go true p false q o r = refused {n = 1} (omega arith)
+      go true p true q false r = refused {n = 2} (omega arith)
+      go true p true q true r = is (record { known = p; finite = q; ordered = r })
+
+  -- what is not refused is valid
+  pub is-valid : (J : Interval) → canonicalOf width I ≡ Is J → Valid width I
+  is-valid J e = from (canonicalOf width I) e tried
+    where
+      from : (i : Image) → i ≡ Is J → Tried i → Valid width I
+      from (Is j) h (is v) = v
+      from (Refused r) h t = absurd (let z : _≡_ {A = ℕ} 0 1 = cc in omega arith)
+
+  -- and a refusal is one of 1 to 3
+  pub refused-number : (r : Refusal) → canonicalOf width I ≡ Refused r → (0 < r .number) × (r .number ≤ 3)
+  refused-number r e = from (canonicalOf width I) e tried
+    where
+      from : (i : Image) → i ≡ Refused r → Tried i → (0 < r .number) × (r .number ≤ 3)
+      from (Is j) h t = absurd (let z : _≡_ {A = ℕ} 0 1 = cc in omega arith)
+      from (Refused q) h (refused {n} l) =
+          let z : suc n ≡ r .number = cc in
+          (omega arith, omega arith)
+
+-- ---- by ordinals
+-- a valid interval has finite ends, low not above high
+pub valid-bounded : (width : ℕ) (I : Interval) → Valid width I → Bounded (formatOf width .fraction) (formatOf width .exponent) (span (rangeOf (formatOf width) I)) × (rangeOf (formatOf width) I .low ≤ rangeOf (formatOf width) I .high)
+unfolding isOrdered
+valid-bounded width I v = (bounded (range-ends (formatOf width) I (rangeOf (formatOf width) I) refl (v .finite)), leb-true _ _ (v .ordered))
+
+module _ (width : ℕ) (I : L.Interval) (b : Bounded (formatOf width .fraction) (formatOf width .exponent) I) where
+  -- the patterns of finite ends lead back to them
+  pub written-span : span (rangeOf (formatOf width) (written (formatOf width) I)) ≡ I
+  written-span =
+      let l = ordinal-pattern (formatOf width .fraction) (formatOf width .exponent) (I .low) (b .low) in
+      let h = ordinal-pattern (formatOf width .fraction) (formatOf width .exponent) (I .high) (b .high) in
+      λ i. record { low = l i; high = h i }
+
+  -- and are a valid interval
+  pub written-valid : isKnown width ≡ true → I .low ≤ I .high → Valid width (written (formatOf width) I)
+  unfolding endsFinite isOrdered
+  written-valid k o =
+      let f = formatOf width .fraction in
+      let e = formatOf width .exponent in
+      record {
+        known = k;
+        finite = rw (pattern-finite f e (I .low) (b .low), pattern-finite f e (I .high) (b .high));
+        ordered = rw (ordinal-pattern f e (I .low) (b .low), ordinal-pattern f e (I .high) (b .high)) (le-leb _ _ o);
+      }
+
+-- ---- the narrowing of three
+pub valid-narrow :
+    (width : ℕ) (x a b : Interval) → Valid width x → Valid width a → Valid width b →
+    narrowOf width x a b ≡ narrowAnswer (formatOf width) (narrowing (formatOf width) (rangeOf (formatOf width) x) (rangeOf (formatOf width) a) (rangeOf (formatOf width) b))
+valid-narrow width x a b u v w = narrow-valid width x a b (u .known) (u .finite) (v .finite) (w .finite) (u .ordered) (v .ordered) (w .ordered)

@@ -1,0 +1,108 @@
+-- The answers of opening, testing and adding, case by case: each law is one way out of a function.
+-- Assumes nothing.
+use mathlib.Core.Path.{_≡_, refl, sym, ap, _∙_}
+use mathlib.Core.Bool.{Bool, true, false}
+use mathlib.Core.List.{List}
+use Prim.Native.Nat.{ℕ, _<_, _≤_}
+use native.Mathlib.Omega.{arith}
+use lib.Dec.{leb}
+use borrow.Author.Tests.{eq-eqb, ne-eqb, eqb-true, le-leb, lt-leb, leb-true}
+use Rattle.arith.specs.declared.refusal.Refusal.{Refusal}
+use Rattle.arith.specs.declared.interval.Interval.{Interval}
+use Rattle.arith.specs.Refusals.{refusal}
+use Rattle.sheet.specs.declared.kept.Record.{Record}
+use Rattle.sheet.specs.declared.kept.Sheet.{Sheet}
+use Rattle.sheet.specs.declared.kept.Answer.{Answer}
+use Rattle.sheet.specs.declared.kept.Answer.the-variants.{Done, Refused}
+use Rattle.sheet.specs.declared.kept.Kept.{Kept}
+use Rattle.sheet.specs.Faults.{headFault, cellFault, sumFault}
+use Rattle.sheet.specs.Sheets.{refusedAt, andThen, require, faultAt, firstFault, testLists, addTest, keptBy, blank, openOf}
+
+-- ---- opening
+module _ (width limit n : ℕ) (e : n ≡ headFault width limit) where
+  pub open-refused : (n ≡ 0 → ⊥) → _≡_ {A = Kept} (record { sheet = blank 0 0; answer = Refused (refusal n) }) (openOf width limit)
+  unfolding openOf
+  open-refused ne = ap (λ (t : Bool). keptBy (require t n 0) (blank 0 0) (blank width limit)) (sym (ne-eqb n 0 ne)) ∙ ap (λ (m : ℕ). keptBy (faultAt m 0) (blank 0 0) (blank width limit)) e
+
+  pub opened : n ≡ 0 → _≡_ {A = Kept} (record { sheet = blank width limit; answer = Done }) (openOf width limit)
+  unfolding openOf
+  opened z = ap (λ (t : Bool). keptBy (require t n 0) (blank 0 0) (blank width limit)) (sym (eq-eqb n 0 z)) ∙ ap (λ (m : ℕ). keptBy (faultAt m 0) (blank 0 0) (blank width limit)) e
+
+-- ---- testing
+module _ (width limit m n : ℕ) (cells : List Interval) (sums : List Record) where
+  pub test-head : (headFault width limit ≡ 0 → ⊥) → refusedAt (headFault width limit) 0 ≡ testLists width limit m n cells sums
+  unfolding testLists
+  test-head ne = rw (ne-eqb _ _ ne)
+
+  module _ (h : headFault width limit ≡ 0) where
+    pub test-many-cells : 64 < m → refusedAt 10 64 ≡ testLists width limit m n cells sums
+    unfolding testLists
+    test-many-cells l = rw (eq-eqb _ _ h, lt-leb m 64 l)
+
+    pub test-many-sums : m ≤ 64 → 128 < n → refusedAt 10 128 ≡ testLists width limit m n cells sums
+    unfolding testLists
+    test-many-sums k l = rw (eq-eqb _ _ h, le-leb m 64 k, lt-leb n 128 l)
+
+    module _ (k : m ≤ 64) (l : n ≤ 128) where
+      test-rest : andThen (firstFault (cellFault width) 0 cells) (firstFault (sumFault m) 0 sums) ≡ testLists width limit m n cells sums
+      unfolding testLists
+      test-rest = rw (eq-eqb _ _ h, le-leb m 64 k, le-leb n 128 l)
+
+      pub test-bad-cell : (r : Refusal) → firstFault (cellFault width) 0 cells ≡ Refused r → Refused r ≡ testLists width limit m n cells sums
+      test-bad-cell r e = ap (λ (a : Answer). andThen a (firstFault (sumFault m) 0 sums)) (sym e) ∙ test-rest
+
+      pub test-good-cells : firstFault (cellFault width) 0 cells ≡ Done → firstFault (sumFault m) 0 sums ≡ testLists width limit m n cells sums
+      test-good-cells e = ap (λ (a : Answer). andThen a (firstFault (sumFault m) 0 sums)) (sym e) ∙ test-rest
+
+-- what a test that lets pass has seen
+pub record Passed (width limit m n : ℕ) (cells : List Interval) (sums : List Record) : Type 0 where
+  pub head : headFault width limit ≡ 0
+  pub few-cells : m ≤ 64
+  pub few-sums : n ≤ 128
+  pub cells-good : firstFault (cellFault width) 0 cells ≡ Done
+  pub sums-good : firstFault (sumFault m) 0 sums ≡ Done
+
+and-done : (a b : Answer) → andThen a b ≡ Done → (a ≡ Done) × (b ≡ Done)
+and-done Done b e = (refl, e)
+and-done (Refused r) b e = absurd (let z : _≡_ {A = ℕ} 0 1 = cc in omega arith)
+
+require-done : (t : Bool) (n p : ℕ) → require t n p ≡ Done → t ≡ true
+require-done true n p e = refl
+require-done false n p e = absurd (let z : _≡_ {A = ℕ} 0 1 = cc in omega arith)
+
+pub passed : (width limit m n : ℕ) (cells : List Interval) (sums : List Record) → testLists width limit m n cells sums ≡ Done → Passed width limit m n cells sums
+unfolding testLists
+passed width limit m n cells sums e =
+    let a = and-done (faultAt (headFault width limit) 0) _ e in
+    let b = and-done (require (leb m 64) 10 64) _ (a .1) in
+    let c = and-done (require (leb n 128) 10 128) _ (b .1) in
+    let d = and-done (firstFault (cellFault width) 0 cells) _ (c .1) in
+    record {
+      head = eqb-true _ _ (require-done _ _ _ (a .0));
+      few-cells = leb-true m 64 (require-done _ _ _ (b .0));
+      few-sums = leb-true n 128 (require-done _ _ _ (c .0));
+      cells-good = d .0;
+      sums-good = d .1;
+    }
+
+pub passes-test : (width limit m n : ℕ) (cells : List Interval) (sums : List Record) → Passed width limit m n cells sums → testLists width limit m n cells sums ≡ Done
+passes-test width limit m n cells sums p = sym (test-good-cells width limit m n cells sums (p .head) (p .few-cells) (p .few-sums) (p .cells-good)) ∙ p .sums-good
+
+-- ---- adding
+module _ (old new : Sheet) (tested : Answer) (fault : ℕ) (room : Bool) where
+  pub add-tested : (r : Refusal) → tested ≡ Refused r → _≡_ {A = Kept} (record { sheet = old; answer = Refused r }) (keptBy (addTest tested fault room) old new)
+  add-tested r e = ap (λ (a : Answer). keptBy (addTest a fault room) old new) (sym e)
+
+  module _ (e : tested ≡ Done) where
+    pub add-fault : (fault ≡ 0 → ⊥) → _≡_ {A = Kept} (record { sheet = old; answer = refusedAt fault 0 }) (keptBy (addTest tested fault room) old new)
+    add-fault ne = ap (λ (t : Bool). keptBy (andThen (require t fault 0) (require room 10 0)) old new) (sym (ne-eqb fault 0 ne)) ∙ ap (λ (a : Answer). keptBy (addTest a fault room) old new) (sym e)
+
+    module _ (z : fault ≡ 0) where
+      good : keptBy (require room 10 0) old new ≡ keptBy (addTest tested fault room) old new
+      good = ap (λ (t : Bool). keptBy (andThen (require t fault 0) (require room 10 0)) old new) (sym (eq-eqb fault 0 z)) ∙ ap (λ (a : Answer). keptBy (addTest a fault room) old new) (sym e)
+
+      pub add-full : room ≡ false → _≡_ {A = Kept} (record { sheet = old; answer = refusedAt 10 0 }) (keptBy (addTest tested fault room) old new)
+      add-full f = ap (λ (t : Bool). keptBy (require t 10 0) old new) (sym f) ∙ good
+
+      pub added : room ≡ true → _≡_ {A = Kept} (record { sheet = new; answer = Done }) (keptBy (addTest tested fault room) old new)
+      added t = ap (λ (u : Bool). keptBy (require u 10 0) old new) (sym t) ∙ good

@@ -1,0 +1,100 @@
+-- The answer of narrowing a sheet, from how its run ended.
+-- Assumes nothing.
+use mathlib.Core.Path.{_≡_, refl, sym, ap, ap₂, _∙_}
+use Prim.Native.Nat.{ℕ, _<_}
+use native.Mathlib.Omega.{arith}
+use lib.ListN.{length, getD}
+use lib.Seq.{getD-take}
+use Rattle.arith.specs.declared.refusal.Refusal.{Refusal}
+use Rattle.sheet.specs.declared.kept.Sheet.{Sheet}
+use Rattle.sheet.specs.declared.kept.Answer.{Answer}
+use Rattle.sheet.specs.declared.kept.Answer.the-variants as Answer
+use Rattle.sheet.specs.declared.passes.Outcome.{Outcome}
+use Rattle.sheet.specs.declared.passes.Outcome.the-variants.{Settled, NoTriple, Stopped, Refused}
+use Rattle.sheet.specs.declared.passes.Halted.{Halted}
+use Rattle.sheet.specs.declared.narrowing.Run.{Run}
+use Rattle.sheet.specs.Cells.{fractionOf, exponentOf, boxOf}
+use Rattle.sheet.specs.Sheets.{noSum, usedCells, usedSums, withCells, tidied, testOf}
+use Rattle.sheet.specs.Boxes.{Box, IsBox, Names}
+use Rattle.sheet.specs.Runs.{Ended, settled, stopped, noTriple, lastBox, endNumber}
+use Rattle.sheet.specs.Steps.{places, endOf, EndsAs}
+use Rattle.sheet.specs.Narrowings.{outcomeNumber, withBox, ranOn, runAfter, narrowSheetOf, Narrows}
+use Rattle.sheet.proofs.Demand.{AllNames, run-box, run-demand3}
+use Rattle.sheet.proofs.Numbers.{test-number}
+use Rattle.sheet.proofs.Places.{box-found}
+use Rattle.sheet.proofs.Tidied.{first-box, sums-name, named}
+
+-- ---- the ways out of `finish`
+module _ (s t : Sheet) (h : Halted) (q : t ≡ tidied s) where
+  kept : (box : Box) → h .cells ≡ places (t .width) (t .«cell_count») box → withCells t (h .cells) ≡ withBox s box
+  unfolding tidied
+  kept box c = ap₂ withCells q (c ∙ ap (λ (u : Sheet). places (u .width) (u .«cell_count») box) q)
+
+  pub finish-settled : (e : Ended) → EndsAs t h e → (p : ℕ) → h .outcome ≡ Settled p → _≡_ {A = Run} (record { sheet = withCells t (h .cells); outcome = Settled p }) (ranOn s e)
+  finish-settled (settled n box) m p o =
+      let z : p ≡ n = let y = m .0 in cc in
+      ap₂ (λ (u : Sheet) (k : ℕ). record { sheet = u; outcome = Settled k }) (kept box (m .1)) z
+  finish-settled (stopped n box) m p o = absurd (let y = m .0 in let z : _≡_ {A = ℕ} 0 1 = cc in omega arith)
+  finish-settled (noTriple n k) m p o = absurd (let z : _≡_ {A = ℕ} 0 1 = cc in omega arith)
+
+  pub finish-stopped : (e : Ended) → EndsAs t h e → (p : ℕ) → h .outcome ≡ Stopped p → _≡_ {A = Run} (record { sheet = withCells t (h .cells); outcome = Stopped p }) (ranOn s e)
+  finish-stopped (stopped n box) m p o =
+      let z : p ≡ n = let y = m .0 in cc in
+      ap₂ (λ (u : Sheet) (k : ℕ). record { sheet = u; outcome = Stopped k }) (kept box (m .1)) z
+  finish-stopped (settled n box) m p o = absurd (let y = m .0 in let z : _≡_ {A = ℕ} 0 1 = cc in omega arith)
+  finish-stopped (noTriple n k) m p o = absurd (let z : _≡_ {A = ℕ} 0 1 = cc in omega arith)
+
+  pub finish-none : (e : Ended) → EndsAs t h e → (p k : ℕ) → h .outcome ≡ NoTriple p k → _≡_ {A = Run} (record { sheet = s; outcome = NoTriple p k }) (ranOn s e)
+  finish-none (noTriple n j) m p k o = ap (λ (v : Outcome). record { sheet = s; outcome = v }) (sym o ∙ m)
+  finish-none (settled n box) m p k o = absurd (let y = m .0 in let z : _≡_ {A = ℕ} 0 1 = cc in omega arith)
+  finish-none (stopped n box) m p k o = absurd (let y = m .0 in let z : _≡_ {A = ℕ} 0 1 = cc in omega arith)
+
+  pub finish-never : (e : Ended) → EndsAs t h e → (r : Refusal) → h .outcome ≡ Refused r → ⊥
+  finish-never (settled n box) m r o = let y = m .0 in let z : _≡_ {A = ℕ} 0 1 = cc in omega arith
+  finish-never (stopped n box) m r o = let y = m .0 in let z : _≡_ {A = ℕ} 0 1 = cc in omega arith
+  finish-never (noTriple n k) m r o = let z : _≡_ {A = ℕ} 0 1 = cc in omega arith
+
+-- ---- the promise
+-- a refused sheet
+pub refused-narrows : (s : Sheet) (r : Refusal) → testOf s ≡ Answer.Refused r → Narrows s (record { sheet = s; outcome = Refused r })
+unfolding narrowSheetOf
+refused-narrows s r t =
+    let n = test-number s r t in
+    record {
+      answer = ap (λ (a : Answer). runAfter a s) (sym t);
+      demand3 = record { settled = λ z. absurd (omega arith); stopped = λ z. absurd (omega arith); none = λ z. absurd (omega arith) };
+    }
+
+-- a sheet that is run
+module _ (s : Sheet) (cells-long : length (s .cells) ≡ 64) (sums-long : length (s .sums) ≡ 128) (t : testOf s ≡ Answer.Done) where
+  -- the number and the box of the answer are the run's
+  number-is : (e : Ended) → endNumber e ≡ outcomeNumber (ranOn s e .outcome)
+  number-is (settled p box) = refl
+  number-is (stopped p box) = refl
+  number-is (noTriple p k) = refl
+
+  last-is :
+      (e : Ended) → IsBox (fractionOf (s .width)) (exponentOf (s .width)) (s .«cell_count») (lastBox (boxOf (s .width) (usedCells s)) e) →
+      lastBox (boxOf (s .width) (usedCells s)) e ≡ boxOf (s .width) (usedCells (ranOn s e .sheet))
+  unfolding tidied
+  last-is (settled p box) is = sym (box-found (s .width) (s .«cell_count») box is)
+  last-is (stopped p box) is = sym (box-found (s .width) (s .«cell_count») box is)
+  last-is (noTriple p k) is = refl
+
+  pub run-narrows : (r : Run) → r ≡ ranOn s (endOf s) → Narrows s r
+  unfolding narrowSheetOf
+  run-narrows r e =
+      let b = first-box s cells-long sums-long t in
+      let n = b .cells in
+      let first = boxOf (s .width) (usedCells s) in
+      let is : IsBox (fractionOf (s .width)) (exponentOf (s .width)) (length first) first = rw n b in
+      let names : AllNames (length first) (usedSums s) = λ k l. all k (rw (named s cells-long sums-long t) at l) in
+      let whole = run-demand3 (fractionOf (s .width)) (exponentOf (s .width)) (usedSums s) (s .limit) first is names in
+      let box = rw n at (run-box (fractionOf (s .width)) (exponentOf (s .width)) (usedSums s) (s .limit) first is names) in
+      record {
+        answer = e ∙ ap (λ (a : Answer). runAfter a s) (sym t);
+        demand3 = rw e (rw (← (number-is (endOf s)), ← (last-is (endOf s) box)) whole);
+      }
+    where
+      all : (k : ℕ) → k < s .«sum_count» → Names (length (boxOf (s .width) (usedCells s))) (getD (usedSums s) k noSum)
+      all k l = rw (first-box s cells-long sums-long t .cells, getD-take (s .«sum_count») (s .sums) k noSum l) (sums-name s cells-long sums-long t k l)

@@ -1,0 +1,16 @@
+pub mod Firsts
+pub mod Filling
+pub mod Answers
+pub mod Cells
+pub mod Boxes
+pub mod Demand
+pub mod Runs
+pub mod Outcomes
+pub mod Comparing
+pub mod Places
+pub mod Steps
+pub mod Sums
+pub mod Tidied
+pub mod Numbers
+pub mod Finishing
+pub mod Growing

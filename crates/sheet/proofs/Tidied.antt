@@ -1,0 +1,124 @@
+-- A sheet that the test lets pass, tidied: its cells stand for the same box, its sums are the same, and a run may start from it.
+-- Assumes nothing.
+use mathlib.Core.Path.{_≡_, refl, sym, ap, ap₂, subst, _∙_}
+use mathlib.Core.Bool.{Bool, true, false, cond}
+use mathlib.Core.List.{List, [], _∷_, map}
+use Prim.Native.Nat.{ℕ, _-_, _<_, _≤_}
+use native.Mathlib.Omega.{arith}
+use lib.ListN.{length, getD, take, replicate, length-map}
+use lib.Seq.{take-at, length-take-le, getD-take}
+use lib.Dec.{ltb}
+use borrow.Author.Tests.{ltb-false}
+use Rattle.arith.specs.declared.interval.Interval.{Interval}
+use Rattle.arith.specs.Formats.{isKnown}
+use Rattle.arith.proofs.Valid.{valid-bounded}
+use Rattle.sheet.specs.declared.kept.Record.{Record}
+use Rattle.sheet.specs.declared.kept.Sheet.{Sheet}
+use Rattle.sheet.specs.declared.kept.Answer.the-variants.{Done}
+use Rattle.sheet.specs.Cells.{fractionOf, exponentOf, ordinalsOf, patternsOf, boxOf}
+use Rattle.sheet.specs.Faults.{headFault, cellFault, sumFault}
+use Rattle.sheet.specs.Sheets.{noCell, noSum, filled, usedCells, usedSums, tidied, testOf}
+use Rattle.sheet.specs.Boxes.{Box, at, Proper, IsBox, Names}
+use Rattle.sheet.specs.Runs.{run}
+use Rattle.sheet.specs.Steps.{places, boxIn, Shows, endOf, Ready}
+use Rattle.sheet.proofs.Answers.{Passed, passed}
+use Rattle.sheet.proofs.Firsts.{faultless-at}
+use Rattle.sheet.proofs.Cells.{fault-free}
+use Rattle.sheet.proofs.Sums.{names-of}
+use Rattle.sheet.proofs.Places.{getD-under, box-found, places-show}
+
+-- a head without a fault: a known width, and a limit from 1 to 65,535
+pub record GoodHead (width limit : ℕ) : Type 0 where
+  pub known : isKnown width ≡ true
+  pub some : 1 ≤ limit
+  pub few : limit ≤ 65535
+
+pub good-head : (width limit : ℕ) → headFault width limit ≡ 0 → GoodHead width limit
+unfolding headFault
+good-head width limit = go (isKnown width) refl (ltb limit 1) refl (ltb 65535 limit) refl
+  where
+    go : (k : Bool) → isKnown width ≡ k → (s : Bool) → ltb limit 1 ≡ s → (t : Bool) → ltb 65535 limit ≡ t → _≡_ {A = ℕ} (cond k (cond s 7 (cond t 7 0)) 1) 0 → GoodHead width limit
+    go false p s q t o e = absurd (omega arith)
+    go true p true q t o e = absurd (omega arith)
+    go true p false q true o e = absurd (omega arith)
+    go true p false q false o e =
+        let l = ltb-false limit 1 q in
+        let m = ltb-false 65535 limit o in
+        record { known = p; some = omega arith; few = omega arith }
+
+map-twice : {A B C : Type 0} (g : B → C) (f : A → B) (l : List A) → map g (map f l) ≡ map (λ (a : A). g (f a)) l
+map-twice g f [] = refl
+map-twice g f (x ∷ xs) = ap (λ (t : List _). g (f x) ∷ t) (map-twice g f xs)
+
+-- ---- the sheet's lists are as long as its arrays
+module _ (s : Sheet) (cells-long : length (s .cells) ≡ 64) (sums-long : length (s .sums) ≡ 128) (t : testOf s ≡ Done) where
+  seen : Passed (s .width) (s .limit) (s .«cell_count») (s .«sum_count») (usedCells s) (usedSums s)
+  seen = passed (s .width) (s .limit) (s .«cell_count») (s .«sum_count») (usedCells s) (usedSums s) t
+
+  head : GoodHead (s .width) (s .limit)
+  head = good-head (s .width) (s .limit) (seen .head)
+
+  pub used : length (usedCells s) ≡ s .«cell_count»
+  used =
+      let l = seen .few-cells in
+      length-take-le (s .«cell_count») (s .cells) (omega arith)
+
+  pub named : length (usedSums s) ≡ s .«sum_count»
+  named =
+      let l = seen .few-sums in
+      length-take-le (s .«sum_count») (s .sums) (omega arith)
+
+  -- the box of the cells in use
+  first : Box
+  first = boxOf (s .width) (usedCells s)
+
+  pub first-box : IsBox (fractionOf (s .width)) (exponentOf (s .width)) (s .«cell_count») (boxOf (s .width) (usedCells s))
+  first-box = record { cells = length-map (usedCells s) (ordinalsOf (s .width)) ∙ used; proper = proper }
+    where
+      proper : (i : ℕ) → i < s .«cell_count» → Proper (fractionOf (s .width)) (exponentOf (s .width)) (at (boxOf (s .width) (usedCells s)) i)
+      proper i l =
+          let u = used in
+          let m = seen .few-cells in
+          let z = faultless-at (cellFault (s .width)) noCell (s .cells) (s .«cell_count») i (omega arith) (seen .cells-good) l in
+          let g = valid-bounded (s .width) (getD (s .cells) i noCell) (fault-free (s .width) (getD (s .cells) i noCell) z) in
+          let e : at (boxOf (s .width) (usedCells s)) i ≡ ordinalsOf (s .width) (getD (s .cells) i noCell) = getD-under (ordinalsOf (s .width)) (usedCells s) i noCell _ (omega arith) ∙ ap (ordinalsOf (s .width)) (getD-take (s .«cell_count») (s .cells) i noCell l) in
+          rw e (record { low = g .0 .low; high = g .0 .high; order = g .1 })
+
+  -- its sums name cells of the box
+  pub sums-name : (k : ℕ) → k < s .«sum_count» → Names (s .«cell_count») (getD (s .sums) k noSum)
+  sums-name k l =
+      let m = seen .few-sums in
+      names-of (s .«cell_count») (getD (s .sums) k noSum) (faultless-at (sumFault (s .«cell_count»)) noSum (s .sums) (s .«sum_count») k (omega arith) (seen .sums-good) l)
+
+  -- ---- tidied
+  tidied-cells : tidied s .cells ≡ places (s .width) (s .«cell_count») (boxOf (s .width) (usedCells s))
+  unfolding tidied
+  tidied-cells = ap (λ (l : List Interval). filled 64 noCell l (s .«cell_count»)) (sym (map-twice (patternsOf (s .width)) (ordinalsOf (s .width)) (usedCells s)))
+
+  pub tidied-sums : usedSums (tidied s) ≡ usedSums s
+  unfolding tidied
+  tidied-sums = take-at (usedSums s) (replicate (128 - s .«sum_count») noSum) (s .«sum_count») named
+
+  tidied-box : boxOf (s .width) (take (s .«cell_count») (tidied s .cells)) ≡ boxOf (s .width) (usedCells s)
+  tidied-box = ap (λ (l : List Interval). boxIn (s .width) (s .«cell_count») l) tidied-cells ∙ box-found (s .width) (s .«cell_count») (boxOf (s .width) (usedCells s)) first-box
+
+  -- the run is the same
+  pub tidied-end : endOf (tidied s) ≡ endOf s
+  unfolding tidied
+  tidied-end = ap₂ (λ (l : List Record) (b : Box). run (fractionOf (s .width)) (exponentOf (s .width)) l (s .limit) b) tidied-sums tidied-box
+
+  -- and may start
+  pub tidied-ready : Ready (tidied s)
+  unfolding tidied
+  tidied-ready = record {
+    known = head .known;
+    some = head .some;
+    passes = head .few;
+    few-cells = seen .few-cells;
+    few-sums = seen .few-sums;
+    names = λ k l. rw (getD-same k l) (sums-name k l);
+    shows = subst (Shows (s .width) (s .«cell_count»)) (sym tidied-cells) (places-show (s .width) (s .«cell_count») (boxOf (s .width) (usedCells s)) first-box);
+  }
+    where
+      getD-same : (k : ℕ) → k < s .«sum_count» → getD (tidied s .sums) k noSum ≡ getD (s .sums) k noSum
+      getD-same k l = sym (getD-take (s .«sum_count») (tidied s .sums) k noSum l) ∙ ap (λ (r : List Record). getD r k noSum) tidied-sums ∙ getD-take (s .«sum_count») (s .sums) k noSum l

@@ -1,0 +1,81 @@
+-- `test_sums` meets its contract. The invariant: no sum passed has a fault, so that the first fault is among those left.
+-- Assumes nothing.
+use native.Mathlib.Omega.{arith}
+use borrow.Author.Needs.{needs}
+use Rattle.sheet.proofs.Firsts.{fault-here, no-fault-here, no-fault-left}
+use Rattle.sheet.specs.Sheets.{noSum, firstFault}
+use Rattle.sheet.specs.Faults.{sumFault}
+use lib.ListN.{length, take, drop}
+use Prim.Native.Nat.{_-_, _≤_}
+use mathlib.Core.Path.{_≡_, refl, sym, _∙_}
+use Rattle.sheet.proofs.testing.test_sums.Statement.{statement}
+use Rattle.sheet.proofs.testing.test_sums.Tie as tie
+
+abbrev Inv-loop : tie.InvT-loop
+Inv-loop cell-count count sums k₀ k = (k ≤ count) × (firstFault (sumFault cell-count) k (drop k (take count sums)) ≡ firstFault (sumFault cell-count) 0 (take count sums))
+
+abbrev μ-loop : tie.MeasureT-loop
+μ-loop cell-count count sums k₀ k = count - k
+
+long : (c : tie.Start Inv-loop μ-loop) → length (c .args .t3) ≡ 128
+long c = search needs
+
+loop-holds : tie.Need-loop-holds Inv-loop μ-loop
+loop-holds c = (omega arith, refl)
+
+mul-sum-fault : tie.Need-mul-sum-fault Inv-loop μ-loop
+mul-sum-fault c = omega arith
+
+array-copy-out-sum-fault : tie.Need-array-copy-out-sum-fault Inv-loop μ-loop
+array-copy-out-sum-fault c = omega arith
+
+sum-fault-requires : tie.Need-sum-fault-requires Inv-loop μ-loop
+sum-fault-requires c κs = search needs
+
+refuse-at-requires : tie.Need-refuse-at-requires Inv-loop μ-loop
+refuse-at-requires c κs = search needs
+
+returns : tie.Need-returns Inv-loop μ-loop
+returns c =
+    let s = c .before .before .before .before .before .before .args in
+    let l = c .before .before .before .before .before .loop in
+    let r = c .before .before .sum-fault in
+    let long : length (s .t3) ≡ 128 = long (c .before .before .before .before .before .before) in
+    c .refuse-at .ensures ∙ rw (r .ensures) (sym (fault-here (sumFault (s .cell-count)) noSum (s .t3) (s .count) (l .k) (omega arith) (omega arith) (λ e. c .before .if1 .taken (r .ensures ∙ e))) ∙ l .inv .1)
+
+add-k : tie.Need-add-k Inv-loop μ-loop
+add-k c = omega arith
+
+loop-less : tie.Need-loop-less Inv-loop μ-loop
+loop-less c = omega arith
+
+loop-again : tie.Need-loop-again Inv-loop μ-loop
+loop-again c =
+    let s = c .before .before .before .before .before .args in
+    let l = c .before .before .before .before .loop in
+    let r = c .before .sum-fault in
+    let long : length (s .t3) ≡ 128 = long (c .before .before .before .before .before) in
+    (omega arith, sym (no-fault-here (sumFault (s .cell-count)) noSum (s .t3) (s .count) (l .k) (omega arith) (omega arith) (sym (r .ensures) ∙ c .if1 .left)) ∙ l .inv .1)
+
+returns-2 : tie.Need-returns-2 Inv-loop μ-loop
+returns-2 c =
+    let s = c .before .before .args in
+    let l = c .before .loop in
+    sym (no-fault-left (sumFault (s .cell-count)) noSum (s .t3) (s .count) (l .k) (omega arith)) ∙ l .inv .1
+
+pub test-sums-spec : {M : Type 1} → statement M
+test-sums-spec =
+    tie.close
+    (tie.spec
+    Inv-loop
+    μ-loop
+    loop-holds
+    mul-sum-fault
+    array-copy-out-sum-fault
+    sum-fault-requires
+    refuse-at-requires
+    returns
+    add-k
+    loop-less
+    loop-again
+    returns-2)

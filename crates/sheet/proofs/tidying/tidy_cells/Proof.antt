@@ -1,0 +1,82 @@
+-- `tidy_cells` meets its contract. The invariant: the places passed hold the cells, canonical, and the others zero.
+-- Assumes nothing.
+use native.Mathlib.Omega.{arith}
+use borrow.Author.Needs.{needs}
+use Rattle.sheet.proofs.Filling.{filled-more}
+use Rattle.sheet.proofs.Firsts.{faultless-at}
+use Rattle.sheet.specs.Cells.{canonicalCell}
+use Rattle.sheet.specs.Sheets.{noCell, filled}
+use Rattle.sheet.specs.Faults.{cellFault}
+use lib.ListN.{length, take}
+use mathlib.Core.List.{map}
+use Prim.Native.Nat.{ℕ, _-_, _≤_}
+use mathlib.Core.Path.{_≡_, refl, ap, _∙_}
+use Rattle.sheet.proofs.tidying.tidy_cells.Statement.{statement}
+use Rattle.sheet.proofs.tidying.tidy_cells.Tie as tie
+
+abbrev Inv-loop : tie.InvT-loop
+Inv-loop width count cells out₀ i₀ out i = (i ≤ count) × (out ≡ filled 64 noCell (map (canonicalCell width) (take i cells)) i)
+
+abbrev μ-loop : tie.MeasureT-loop
+μ-loop width count cells out₀ i₀ out i = count - i
+
+long : (c : tie.Start Inv-loop μ-loop) → length (c .args .t3) ≡ 64
+long c = search needs
+
+loop-holds : tie.Need-loop-holds Inv-loop μ-loop
+loop-holds c = (omega arith, refl)
+
+mul-write-cell : tie.Need-mul-write-cell Inv-loop μ-loop
+mul-write-cell c = omega arith
+
+array-copy-out-write-cell : tie.Need-array-copy-out-write-cell Inv-loop μ-loop
+array-copy-out-write-cell c = omega arith
+
+write-cell-requires : tie.Need-write-cell-requires Inv-loop μ-loop
+write-cell-requires c κs =
+    let s = c .before .before .before .args in
+    let l = long (c .before .before .before) in
+    faultless-at (cellFault (s .width)) noCell (s .t3) (s .count) (c .before .before .loop .i) (omega arith) (c .before .before .before .pre .1) (omega arith)
+
+mul-out : tie.Need-mul-out Inv-loop μ-loop
+mul-out c = omega arith
+
+array-set-from-out : tie.Need-array-set-from-out Inv-loop μ-loop
+array-set-from-out c = omega arith
+
+add-i : tie.Need-add-i Inv-loop μ-loop
+add-i c = omega arith
+
+loop-less : tie.Need-loop-less Inv-loop μ-loop
+loop-less c = omega arith
+
+loop-again : tie.Need-loop-again Inv-loop μ-loop
+loop-again c =
+    let s = c .before .before .before .before .args in
+    let l = c .before .before .before .loop in
+    let n = long (c .before .before .before .before) in
+    (omega arith, rw (l .inv .1, c .write-cell .ensures) (filled-more (canonicalCell (s .width)) noCell noCell 64 (l .i) (s .t3) (omega arith) (omega arith)))
+
+returns : tie.Need-returns Inv-loop μ-loop
+returns c =
+    let s = c .before .before .args in
+    let l = c .before .loop in
+    let e : l .i ≡ s .count = omega arith in
+    l .inv .1 ∙ ap (λ (n : ℕ). filled 64 noCell (map (canonicalCell (s .width)) (take n (s .t3))) n) e
+
+pub tidy-cells-spec : {M : Type 1} → statement M
+tidy-cells-spec =
+    tie.close
+    (tie.spec
+    Inv-loop
+    μ-loop
+    loop-holds
+    mul-write-cell
+    array-copy-out-write-cell
+    write-cell-requires
+    mul-out
+    array-set-from-out
+    add-i
+    loop-less
+    loop-again
+    returns)

@@ -1,0 +1,73 @@
+-- `tidy_sums` meets its contract. The invariant: the places passed hold the sums, and the others zero.
+-- Assumes nothing.
+use native.Mathlib.Omega.{arith}
+use borrow.Author.Needs.{needs}
+use Rattle.sheet.proofs.Filling.{filled-more, map-same}
+use Rattle.sheet.specs.Sheets.{noSum, filled}
+use Rattle.sheet.specs.declared.kept.Record.{Record}
+use lib.ListN.{length, take}
+use mathlib.Core.List.{List, map}
+use Prim.Native.Nat.{ℕ, _-_, _≤_}
+use mathlib.Core.Path.{_≡_, refl, ap, _∙_}
+use Rattle.sheet.proofs.tidying.tidy_sums.Statement.{statement}
+use Rattle.sheet.proofs.tidying.tidy_sums.Tie as tie
+
+abbrev Inv-loop : tie.InvT-loop
+Inv-loop count sums out₀ k₀ out k = (k ≤ count) × (out ≡ filled 128 noSum (map (λ (r : Record). r) (take k sums)) k)
+
+abbrev μ-loop : tie.MeasureT-loop
+μ-loop count sums out₀ k₀ out k = count - k
+
+long : (c : tie.Start Inv-loop μ-loop) → length (c .args .t2) ≡ 128
+long c = search needs
+
+loop-holds : tie.Need-loop-holds Inv-loop μ-loop
+loop-holds c = (omega arith, refl)
+
+mul-out : tie.Need-mul-out Inv-loop μ-loop
+mul-out c = omega arith
+
+array-copy-out-out : tie.Need-array-copy-out-out Inv-loop μ-loop
+array-copy-out-out c = omega arith
+
+mul-out-2 : tie.Need-mul-out-2 Inv-loop μ-loop
+mul-out-2 c = omega arith
+
+array-set-from-out : tie.Need-array-set-from-out Inv-loop μ-loop
+array-set-from-out c = omega arith
+
+add-k : tie.Need-add-k Inv-loop μ-loop
+add-k c = omega arith
+
+loop-less : tie.Need-loop-less Inv-loop μ-loop
+loop-less c = omega arith
+
+loop-again : tie.Need-loop-again Inv-loop μ-loop
+loop-again c =
+    let s = c .before .before .before .args in
+    let l = c .before .before .loop in
+    let n = long (c .before .before .before) in
+    (omega arith, rw (l .inv .1) (filled-more (λ (r : Record). r) noSum noSum 128 (l .k) (s .t2) (omega arith) (omega arith)))
+
+returns : tie.Need-returns Inv-loop μ-loop
+returns c =
+    let s = c .before .before .args in
+    let l = c .before .loop in
+    let e : l .k ≡ s .count = omega arith in
+    l .inv .1 ∙ ap (λ (n : ℕ). filled 128 noSum (map (λ (r : Record). r) (take n (s .t2))) n) e ∙ ap (λ (t : List Record). filled 128 noSum t (s .count)) (map-same (take (s .count) (s .t2)))
+
+pub tidy-sums-spec : {M : Type 1} → statement M
+tidy-sums-spec =
+    tie.close
+    (tie.spec
+    Inv-loop
+    μ-loop
+    loop-holds
+    mul-out
+    array-copy-out-out
+    mul-out-2
+    array-set-from-out
+    add-k
+    loop-less
+    loop-again
+    returns)

@@ -1,0 +1,9 @@
+pub mod Faults
+pub mod Boxes
+pub mod Cells
+pub mod Sheets
+pub mod Runs
+pub mod Consistency
+pub mod Outcomes
+pub mod Steps
+pub mod Narrowings

@@ -1,0 +1,55 @@
+-- The whole answer of narrowing a kept sheet, and what it promises. Assumes nothing.
+use mathlib.Core.Path.{_≡_}
+use mathlib.Core.List.{List, [], _∷_}
+use Prim.Native.Nat.{ℕ}
+use Rattle.sheet.specs.declared.kept.Sheet.{Sheet}
+use Rattle.sheet.specs.declared.kept.Answer.{Answer}
+use Rattle.sheet.specs.declared.kept.Answer.the-variants as Answer
+use Rattle.sheet.specs.declared.passes.Outcome.{Outcome}
+use Rattle.sheet.specs.declared.passes.Outcome.the-variants.{Settled, NoTriple, Stopped, Refused}
+use Rattle.sheet.specs.declared.narrowing.Run.{Run}
+use Rattle.sheet.specs.Sheets.{usedCells, usedSums, withCells, tidied, testOf}
+use Rattle.sheet.specs.Boxes.{Box}
+use Rattle.sheet.specs.Runs.{Ended, settled, stopped, noTriple}
+use Rattle.sheet.specs.Consistency.{Demand3}
+use Rattle.sheet.specs.Cells.{fractionOf, exponentOf, boxOf}
+use Rattle.sheet.specs.Steps.{places, endOf}
+
+-- 01's number of each case: 0 where nothing is refused
+abbrev pub outcomeNumber : Outcome → ℕ
+outcomeNumber (Settled passes) = 0
+outcomeNumber (NoTriple pass sum) = 11
+outcomeNumber (Stopped passes) = 12
+outcomeNumber (Refused r) = r .number
+
+-- 01's values of each case: the passes made; pass and sum; the passes; the place
+abbrev pub outcomeValues : Outcome → List ℕ
+outcomeValues (Settled passes) = passes ∷ []
+outcomeValues (NoTriple pass sum) = pass ∷ sum ∷ []
+outcomeValues (Stopped passes) = passes ∷ []
+outcomeValues (Refused r) = r .place ∷ []
+
+-- the sheet with a box in its cells, each end in its one pattern, unused places zero
+abbrev pub withBox : Sheet → Box → Sheet
+withBox s box = withCells (tidied s) (places (s .width) (s .«cell_count») box)
+
+-- the answer of a run that ended so: under 'no triple' the sheet as it came
+abbrev pub ranOn : Sheet → Ended → Run
+ranOn s (settled p box) = record { sheet = withBox s box; outcome = Settled p }
+ranOn s (stopped p box) = record { sheet = withBox s box; outcome = Stopped p }
+ranOn s (noTriple p k) = record { sheet = s; outcome = NoTriple p k }
+
+-- the sheet's own test first, then the run from its cells in use
+abbrev pub runAfter : Answer → Sheet → Run
+runAfter Answer.Done s = ranOn s (endOf s)
+runAfter (Answer.Refused r) s = record { sheet = s; outcome = Refused r }
+
+unfoldable pub narrowSheetOf : Sheet → Run
+narrowSheetOf s = runAfter (testOf s) s
+
+-- what the call promises: the answer, and demand 3 on the cells first given
+pub record Narrows (s : Sheet) (r : Run) : Type 0 where
+  pub answer : r ≡ narrowSheetOf s
+  pub demand3 :
+      Demand3 (fractionOf (s .width)) (exponentOf (s .width)) (usedSums s)
+      (boxOf (s .width) (usedCells s)) (boxOf (s .width) (usedCells (r .sheet))) (outcomeNumber (r .outcome))

@@ -1,0 +1,161 @@
+-- The kept sheet: what is in use, its one written form, and the whole answers of opening and adding. Assumes nothing.
+use mathlib.Core.Bool.{Bool, cond}
+use mathlib.Core.List.{List, [], _∷_, _++_, map}
+use Prim.Native.Nat.{ℕ, _+_, _-_}
+use lib.Dec.{leb, ltb, eqb}
+use lib.ListN.{replicate, take, set}
+use Rattle.arith.specs.declared.interval.Interval.{Interval}
+use Rattle.sheet.specs.declared.kept.Record.{Record}
+use Rattle.sheet.specs.declared.kept.Sheet.{Sheet}
+use Rattle.sheet.specs.declared.kept.Answer.{Answer}
+use Rattle.sheet.specs.declared.kept.Answer.the-variants.{Done, Refused}
+use Rattle.sheet.specs.declared.kept.Kept.{Kept}
+use Rattle.sheet.specs.Cells.{canonicalCell}
+use Rattle.sheet.specs.Faults.{headFault, cellFault, sumFault}
+
+-- ---- places
+-- what an unused place holds
+abbrev pub noCell : Interval
+noCell = record { low = 0; high = 0 }
+
+abbrev pub noSum : Record
+noSum = record { x = 0; a = 0; b = 0 }
+
+-- so many places, of which the first hold a list and the others v
+abbrev pub filled : {A : Type 0} → ℕ → A → List A → ℕ → List A
+filled places v l n = l ++ replicate (places - n) v
+
+-- a sheet with nothing in use
+abbrev pub blank : ℕ → ℕ → Sheet
+blank width limit =
+    record {
+      width = width;
+      limit = limit;
+      «cell_count» = 0;
+      «sum_count» = 0;
+      cells = replicate 64 noCell;
+      sums = replicate 128 noSum;
+    }
+
+-- the cells and the sums in use
+abbrev pub usedCells : Sheet → List Interval
+usedCells s = take (s .«cell_count») (s .cells)
+
+abbrev pub usedSums : Sheet → List Record
+usedSums s = take (s .«sum_count») (s .sums)
+
+-- the sheet as a result has it: each end in its one pattern, unused places zero
+unfoldable pub tidied : Sheet → Sheet
+tidied s =
+    record {
+      width = s .width;
+      limit = s .limit;
+      «cell_count» = s .«cell_count»;
+      «sum_count» = s .«sum_count»;
+      cells = filled 64 noCell (map (canonicalCell (s .width)) (usedCells s)) (s .«cell_count»);
+      sums = filled 128 noSum (usedSums s) (s .«sum_count»);
+    }
+
+-- the sheet with other cells
+abbrev pub withCells : Sheet → List Interval → Sheet
+withCells s cells =
+    record {
+      width = s .width;
+      limit = s .limit;
+      «cell_count» = s .«cell_count»;
+      «sum_count» = s .«sum_count»;
+      cells = cells;
+      sums = s .sums;
+    }
+
+-- ---- answers
+-- 01's number and place of each case; 0 where nothing is refused
+abbrev pub answerNumber : Answer → ℕ
+answerNumber Done = 0
+answerNumber (Refused r) = r .number
+
+abbrev pub answerPlace : Answer → ℕ
+answerPlace Done = 0
+answerPlace (Refused r) = r .place
+
+-- the refusal of a number at a place
+abbrev pub refusedAt : ℕ → ℕ → Answer
+refusedAt number place = Refused (record { number = number; place = place })
+
+-- the second test where the first passed
+abbrev pub andThen : Answer → Answer → Answer
+andThen Done next = next
+andThen (Refused r) next = Refused r
+
+-- passed where the test holds, else the refusal of the number at the place
+abbrev pub require : Bool → ℕ → ℕ → Answer
+require ok number place = cond ok Done (refusedAt number place)
+
+-- a fault's number, at a place
+abbrev pub faultAt : ℕ → ℕ → Answer
+faultAt number place = require (eqb number 0) number place
+
+-- the new sheet where nothing is refused, else the old one
+abbrev pub keptBy : Answer → Sheet → Sheet → Kept
+keptBy Done old new = record { sheet = new; answer = Done }
+keptBy (Refused r) old new = record { sheet = old; answer = Refused r }
+
+-- ---- opening: 1, 7
+unfoldable pub openOf : ℕ → ℕ → Kept
+openOf width limit = keptBy (faultAt (headFault width limit) 0) (blank 0 0) (blank width limit)
+
+-- ---- the test of a sheet handed in, in the order of lists
+-- the first of a list's members with a fault; its place is its index, counted from i on
+unfoldable pub firstFault : {A : Type 0} → (A → ℕ) → ℕ → List A → Answer
+firstFault fault i [] = Done
+firstFault fault i (v ∷ vs) = andThen (faultAt (fault v) i) (firstFault fault (i + 1) vs)
+
+-- 1; 7; 10 for the cells, then for the sums, at the first index too many; 2 and 3 cell by cell; 5 and 6 sum by sum
+unfoldable pub testLists : ℕ → ℕ → ℕ → ℕ → List Interval → List Record → Answer
+testLists width limit cellCount sumCount cells sums =
+    andThen (faultAt (headFault width limit) 0)
+    (andThen (require (leb cellCount 64) 10 64)
+    (andThen (require (leb sumCount 128) 10 128)
+    (andThen (firstFault (cellFault width) 0 cells)
+    (firstFault (sumFault cellCount) 0 sums))))
+
+abbrev pub testOf : Sheet → Answer
+testOf s = testLists (s .width) (s .limit) (s .«cell_count») (s .«sum_count») (usedCells s) (usedSums s)
+
+-- ---- adding: the sheet's own test, then 2, 3, 10 or 5, 6, 10, at place 0
+abbrev pub addTest : Answer → ℕ → Bool → Answer
+addTest tested fault room = andThen tested (andThen (faultAt fault 0) (require room 10 0))
+
+abbrev pub withCell : Sheet → Interval → Sheet
+withCell s cell =
+    record {
+      width = s .width;
+      limit = s .limit;
+      «cell_count» = s .«cell_count» + 1;
+      «sum_count» = s .«sum_count»;
+      cells = set (s .cells) (s .«cell_count») cell;
+      sums = s .sums;
+    }
+
+abbrev pub withSum : Sheet → Record → Sheet
+withSum s sum =
+    record {
+      width = s .width;
+      limit = s .limit;
+      «cell_count» = s .«cell_count»;
+      «sum_count» = s .«sum_count» + 1;
+      cells = s .cells;
+      sums = set (s .sums) (s .«sum_count») sum;
+    }
+
+unfoldable pub addCellOf : Sheet → Interval → Kept
+addCellOf s cell =
+    keptBy (addTest (testOf s) (cellFault (s .width) cell) (ltb (s .«cell_count») 64))
+    s
+    (withCell (tidied s) (canonicalCell (s .width) cell))
+
+unfoldable pub addSumOf : Sheet → Record → Kept
+addSumOf s sum =
+    keptBy (addTest (testOf s) (sumFault (s .«cell_count») sum) (ltb (s .«sum_count») 128))
+    s
+    (withSum (tidied s) sum)

@@ -1,0 +1,75 @@
+-- What the loops of the run hold: cells in patterns that stand for a box of ordinals. Assumes nothing.
+use mathlib.Core.Path.{_≡_}
+use mathlib.Core.Bool.{Bool, true, false}
+use mathlib.Core.List.{List}
+use Prim.Native.Nat.{ℕ, _<_, _≤_}
+use lib.ListN.{getD, take, set}
+use Rattle.arith.specs.declared.interval.Interval.{Interval}
+use Rattle.arith.specs.declared.narrow.Narrowed.{Narrowed}
+use Rattle.arith.specs.declared.narrow.Narrowed.the-variants.{Ends, Refused}
+use Rattle.arith.specs.Formats.{isKnown}
+use Rattle.arith.specs.Narrows.{narrowOf}
+use Rattle.sheet.specs.declared.kept.Record.{Record}
+use Rattle.sheet.specs.declared.kept.Sheet.{Sheet}
+use Rattle.sheet.specs.declared.passes.Outcome.the-variants.{Settled, NoTriple, Stopped}
+use Rattle.sheet.specs.declared.passes.Stepped.{Stepped}
+use Rattle.sheet.specs.declared.passes.Halted.{Halted}
+use Rattle.sheet.specs.Cells.{fractionOf, exponentOf, boxOf, cellsOf}
+use Rattle.sheet.specs.Sheets.{noCell, noSum, filled, usedCells, usedSums}
+use Rattle.sheet.specs.Boxes.{Box, IsBox, Names}
+use Rattle.sheet.specs.Runs.{Ended, settled, stopped, noTriple, run}
+
+-- ---- cells and boxes
+-- the 64 places with the n cells of a box, the others zero
+abbrev pub places : ℕ → ℕ → Box → List Interval
+places width n box = filled 64 noCell (cellsOf width box) n
+
+-- the box of the first n cells
+abbrev pub boxIn : ℕ → ℕ → List Interval → Box
+boxIn width n cells = boxOf width (take n cells)
+
+-- the places hold the n cells of a box, in its one written form
+pub record Shows (width n : ℕ) (cells : List Interval) : Type 0 where
+  pub box : IsBox (fractionOf width) (exponentOf width) n (boxIn width n cells)
+  pub held : cells ≡ places width n (boxIn width n cells)
+
+-- the run of a sheet, from the cells in use
+abbrev pub endOf : Sheet → Ended
+endOf s = run (fractionOf (s .width)) (exponentOf (s .width)) (usedSums s) (s .limit) (boxOf (s .width) (usedCells s))
+
+-- ---- one sum
+-- the sum's cells have places
+pub record Reachable (r : Record) : Type 0 where
+  pub x : r .x < 64
+  pub a : r .a < 64
+  pub b : r .b < 64
+
+abbrev pub steppedBy : List Interval → Record → Narrowed → Stepped
+steppedBy cells r (Ends X A B) = record { solved = true; cells = set (set (set cells (r .x) X) (r .a) A) (r .b) B }
+steppedBy cells r (Refused q) = record { solved = false; cells = cells }
+
+-- the cells after the sum is narrowed
+unfoldable pub stepped : ℕ → List Interval → Record → Stepped
+stepped width cells r = steppedBy cells r (narrowOf width (getD cells (r .x) noCell) (getD cells (r .a) noCell) (getD cells (r .b) noCell))
+
+-- t says whether two lists of cells are equal
+pub record Compares (t : Bool) (p q : List Interval) : Type 0 where
+  pub same : t ≡ true → p ≡ q
+  pub differ : t ≡ false → p ≡ q → ⊥
+
+-- ---- the run
+-- a sheet that the run may start from: its cells stand for a box, and its sums name cells of it
+pub record Ready (s : Sheet) : Type 0 where
+  pub known : isKnown (s .width) ≡ true
+  pub some : 1 ≤ s .limit
+  pub passes : s .limit ≤ 65535
+  pub few-cells : s .«cell_count» ≤ 64
+  pub few-sums : s .«sum_count» ≤ 128
+  pub names : (k : ℕ) → k < s .«sum_count» → Names (s .«cell_count») (getD (s .sums) k noSum)
+  pub shows : Shows (s .width) (s .«cell_count») (s .cells)
+
+-- what the loops leave, by how the run ends; under 'no triple' the cells are of no use
+abbrev pub EndsAs : Sheet → Halted → Ended → Type 0
+EndsAs s t (settled p box) = (t .outcome ≡ Settled p) × (t .cells ≡ places (s .width) (s .«cell_count») box)
+EndsAs s t (stopped p box) = (t .outcome ≡ Stopped p) × (t .cells ≡ places (s .width) (s .«cell_count») box)
+EndsAs s t (noTriple p k) = t .outcome ≡ NoTriple p k

@@ -1,0 +1,8 @@
+// Sheets of cells and sums over them: kept, added to, tested and narrowed together. Rests on the contracts of the crate `arith`.
+pub mod adding;
+pub mod fault;
+pub mod kept;
+pub mod narrowing;
+pub mod passes;
+mod testing;
+mod tidying;

@@ -1,0 +1,70 @@
+// Narrowing a kept sheet.
+ghost use mathlib.Core.Path.{_≡_};
+ghost use Rattle.sheet.specs.Steps.{EndsAs, endOf};
+ghost use Rattle.sheet.specs.Narrowings.{Narrows, ranOn};
+ghost use Rattle.sheet.specs.Sheets.{tidied, withCells};
+use crate::kept::Answer;
+use crate::kept::Sheet;
+use crate::passes::Halted;
+use crate::passes::Outcome;
+use crate::passes::run_passes;
+use crate::testing::test_sheet;
+use crate::tidying::tidy;
+
+// The sheet after a run, with its outcome.
+pub struct Run {
+    pub sheet: Sheet,
+    pub outcome: Outcome,
+}
+
+// The sheet with other cells.
+fn with_cells(sheet: Sheet, halted: Halted) -> Sheet
+    ensures { λ s. ⌜ s ≡ withCells sheet (halted .cells) ⌝ }
+{
+    let cells = halted.cells;
+    let mut next = sheet;
+    next.cells = cells;
+    next
+}
+
+// The answer of a run on the tidied sheet: under 'no triple' the sheet as it came, else the one with the cells it ended with.
+fn finish(sheet: Sheet, tidy: Sheet, halted: Halted) -> Run
+    requires { ⌜ (tidy ≡ tidied sheet) × (EndsAs tidy halted (endOf tidy)) ⌝ }
+    ensures { λ r. ⌜ r ≡ ranOn sheet (endOf tidy) ⌝ }
+{
+    let outcome = halted.outcome;
+    match outcome {
+        Outcome::Settled { passes } => Run {
+            sheet: with_cells(tidy, halted),
+            outcome: Outcome::Settled { passes },
+        },
+        Outcome::NoTriple { pass, sum } => Run {
+            sheet,
+            outcome: Outcome::NoTriple { pass, sum },
+        },
+        Outcome::Stopped { passes } => Run {
+            sheet: with_cells(tidy, halted),
+            outcome: Outcome::Stopped { passes },
+        },
+        Outcome::Refused(r) => Run {
+            sheet,
+            outcome: Outcome::Refused(r),
+        },
+    }
+}
+
+// Narrows the sums of a sheet together until a pass moves no end. The sheet's own refusals first; 11 leaves the sheet as it came, 12 with the box after the last pass.
+pub fn narrow_sheet(sheet: Sheet) -> Run
+    ensures { λ r. ⌜ Narrows sheet r ⌝ }
+{
+    let tested = test_sheet(sheet);
+    if let Answer::Refused(r) = tested {
+        return Run {
+            sheet,
+            outcome: Outcome::Refused(r),
+        };
+    }
+    let ready = tidy(sheet);
+    let halted = run_passes(ready);
+    finish(sheet, ready, halted)
+}
