@@ -102,12 +102,12 @@ fn conclude(width: u64, got: Reply, expected: Reply) {
     put_verdict(equal(got, expected));
 }
 
-fn put_interval(width: u64, i: Interval) {
+pub(crate) fn put_interval(width: u64, i: Interval) {
     put_pattern(width, i.low);
     put_pattern(width, i.high);
 }
 
-fn interval(low: u64, high: u64) -> Interval {
+pub(crate) fn interval(low: u64, high: u64) -> Interval {
     Interval { low, high }
 }
 

@@ -2,13 +2,17 @@
 mod compare;
 mod hardware;
 mod intervals;
+mod narrowings;
 mod operands;
 mod print;
 mod sums;
+mod traps;
 
 fn main() {
     sums::read_sums();
     intervals::read_intervals();
+    narrowings::read_narrowings();
+    traps::read_traps();
     compare::compare_width(32);
     compare::compare_width(64);
 }

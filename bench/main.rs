@@ -1,0 +1,98 @@
+//! Nanoseconds for the library's forward sum and narrowing and for a pass over a sheet, beside unverified baselines in the
+//! same run.
+//!
+//! Usage: bench PROGRAM, the program `narrow`. Both sides get the same input and must give the same answers. Each figure is the
+//! best of several rounds; the result buffers are not cleared between calls.
+
+#[path = "../tests/common/cases.rs"]
+mod cases;
+#[path = "../tests/common/entry.rs"]
+mod entry;
+#[path = "../tests/common/floats.rs"]
+mod floats;
+#[path = "../tests/common/narrowing.rs"]
+mod narrowing;
+#[path = "../tests/common/sheet.rs"]
+mod sheet;
+#[allow(dead_code)]
+#[path = "../tests/common/words.rs"]
+mod words;
+
+mod baseline;
+mod passes;
+mod sums;
+
+use floats::{Binary32, Binary64, Range, Width};
+use std::hint::black_box;
+use std::time::Instant;
+use words::Words;
+
+const CASES: usize = 2_000;
+const ROUNDS: usize = 15;
+
+type Call = fn(u64, [u64; 6], &mut [u8]) -> u64;
+
+/// Both operands wide, b wide or about a sum.
+fn wide<W: Width>(words: &mut Words) -> [Range; 3] {
+    let (x, a) = (cases::wide::<W>(words), cases::wide::<W>(words));
+    let b = if words.coin() { cases::wide::<W>(words) } else { cases::about_sum::<W>(words, x, a, 8) };
+    [x, a, b]
+}
+
+/// Every interval a few floats long.
+fn few_ulps<W: Width>(words: &mut Words) -> [Range; 3] {
+    let (p, q) = cases::middles::<W>(words, "opposite signs");
+    let (x, a) = (cases::around::<W>(words, p, 8), cases::around::<W>(words, q.abs(), 8));
+    [x, a, cases::about_sum::<W>(words, x, a, 8)]
+}
+
+/// Binades of opposite signs, b a few floats long: most of the operands cancel.
+fn cancellation<W: Width>(words: &mut Words) -> [Range; 3] {
+    let (x, a) = cases::opposite_binades::<W>(words);
+    [x, a, cases::about_sum::<W>(words, x, a, 8)]
+}
+
+/// Best nanoseconds a call over all cases, and the sum of the answers.
+fn time(call: Call, width: u64, cases: &[[u64; 6]]) -> (f64, u64) {
+    let mut result = [0u8; 48];
+    let (mut best, mut check) = (f64::MAX, 0u64);
+    for _ in 0..ROUNDS {
+        check = 0;
+        let start = Instant::now();
+        for ends in cases {
+            let answer = call(width, black_box(*ends), &mut result);
+            check = check.wrapping_mul(31).wrapping_add(answer ^ u64::from_le_bytes(result[..8].try_into().unwrap()));
+        }
+        best = best.min(start.elapsed().as_nanos() as f64 / cases.len() as f64);
+    }
+    (best, black_box(check))
+}
+
+pub fn report(what: &str, library: f64, baseline: f64) {
+    println!("{what}: library {library:.1} ns, baseline {baseline:.1} ns, ratio {:.2}", library / baseline);
+}
+
+fn narrowing<W: Width>(mix: &str, make: fn(&mut Words) -> [Range; 3]) {
+    let mut words = Words(0x9E37_79B9_7F4A_7C15);
+    let ends = |[x, a, b]: [Range; 3]| [x.low, x.high, a.low, a.high, b.low, b.high].map(W::pattern);
+    let cases: Vec<[u64; 6]> = (0..CASES).map(|_| ends(make(&mut words))).collect();
+    let (library, answers) = time(entry::call, W::BITS, &cases);
+    let (baseline, expected) = time(baseline::call, W::BITS, &cases);
+    assert_eq!(answers, expected, "{mix}: the baseline answers otherwise");
+    report(&format!("narrowing, width {}, {mix}", W::BITS), library, baseline);
+}
+
+fn narrowings<W: Width>() {
+    narrowing::<W>("wide intervals", wide::<W>);
+    narrowing::<W>("a few ulps", few_ulps::<W>);
+    narrowing::<W>("cancellation", cancellation::<W>);
+}
+
+fn main() {
+    sums::sums::<Binary32>();
+    sums::sums::<Binary64>();
+    narrowings::<Binary32>();
+    narrowings::<Binary64>();
+    let program = std::env::args().nth(1).expect("usage: bench PROGRAM");
+    passes::pass(&program);
+}

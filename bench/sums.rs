@@ -1,0 +1,92 @@
+//! Forward sums: the library's beside a plain software addition with guard, round and sticky bits.
+
+use crate::cases;
+use crate::floats::Width;
+use crate::report;
+use crate::words::Words;
+use std::hint::black_box;
+use std::time::Instant;
+
+const PAIRS: usize = 4_000;
+const ROUNDS: usize = 25;
+
+unsafe extern "C" {
+    fn bench_add(width: u64, x: u64, a: u64, out: *mut [u64; 2]) -> u64;
+}
+
+fn library_add(width: u64, x: u64, a: u64, out: &mut [u64; 2]) -> u64 {
+    // The pointer is a reference's.
+    unsafe { bench_add(width, x, a, out) }
+}
+
+/// 0 with the pattern and the mark, or the refusal number.
+fn software_add(width: u64, x: u64, a: u64, out: &mut [u64; 2]) -> u64 {
+    let f = match width {
+        32 => 23,
+        64 => 52,
+        _ => return 1,
+    };
+    let (sign, hidden) = (1u64 << (width - 1), 1u64 << f);
+    let infinity = sign - hidden;
+    let (p, q) = (x & !sign, a & !sign);
+    if p >= infinity || q >= infinity {
+        return 2;
+    }
+    let (larger, smaller, negative) = if p >= q { (p, q, x & sign) } else { (q, p, a & sign) };
+    let unpack = |m: u64| if m < hidden { (m, 1) } else { (m % hidden + hidden, m >> f) };
+    let ((s, mut exponent), (t, e)) = (unpack(larger), unpack(smaller));
+    let (s, t, gap) = (s << 3, t << 3, exponent - e);
+    let t = if gap > 60 { (t != 0) as u64 } else { t >> gap | (t & ((1 << gap) - 1) != 0) as u64 };
+    let mut sum = if (x ^ a) & sign == 0 { s + t } else { s - t };
+    if sum == 0 {
+        *out = [0, 0];
+        return 0;
+    }
+    if sum >> (f + 4) != 0 {
+        sum = sum >> 1 | sum & 1;
+        exponent += 1;
+    } else {
+        let up = (sum.leading_zeros() as u64 - (60 - f)).min(exponent - 1);
+        sum <<= up;
+        exponent -= up;
+    }
+    let (kept, rest) = (sum >> 3, sum & 7);
+    let up = rest > 4 || rest == 4 && kept & 1 == 1;
+    let size = ((exponent - 1) << f) + kept + up as u64;
+    if size >= infinity {
+        return 9;
+    }
+    let mark = if rest == 0 { 0 } else if size < hidden { 2 } else { 1 };
+    *out = [if size == 0 { 0 } else { size | negative }, mark];
+    0
+}
+
+/// Best nanoseconds a sum, and all answers folded into one number.
+fn time(add: fn(u64, u64, u64, &mut [u64; 2]) -> u64, width: u64, pairs: &[[u64; 2]]) -> (f64, u64) {
+    let (mut best, mut check) = (f64::MAX, 0u64);
+    for _ in 0..ROUNDS {
+        let mut out = [0; 2];
+        check = 0;
+        let start = Instant::now();
+        for [x, a] in pairs {
+            let answer = add(width, black_box(*x), black_box(*a), &mut out);
+            check = check.wrapping_mul(31).wrapping_add(answer ^ out[0] ^ out[1]);
+        }
+        best = best.min(start.elapsed().as_nanos() as f64 / pairs.len() as f64);
+    }
+    (best, black_box(check))
+}
+
+/// Operands of every placement of the differential test.
+pub fn sums<W: Width>() {
+    let mut words = Words(0x9E37_79B9_7F4A_7C15);
+    let mut pair = |i: usize| {
+        let (x, a) = cases::middles::<W>(&mut words, cases::PLACEMENTS[i % cases::PLACEMENTS.len()]);
+        [x, a].map(|p| W::pattern(p.clamp(-W::LARGEST, W::LARGEST)))
+    };
+    let pairs: Vec<[u64; 2]> = (0..PAIRS).map(&mut pair).collect();
+    let (library, answers) = time(library_add, W::BITS, &pairs);
+    let (baseline, expected) = time(software_add, W::BITS, &pairs);
+    assert_eq!(answers, expected, "the software addition answers otherwise");
+    report(&format!("sum, width {}", W::BITS), library, baseline);
+}

@@ -1,0 +1,200 @@
+// 01's narrowings of one sum, and each refusal with its order.
+use crate::intervals::interval;
+use crate::intervals::put_interval;
+use crate::print::put_number;
+use crate::print::put_text;
+use crate::print::put_verdict;
+use arith::interval::Interval;
+use arith::narrow::Narrowed;
+use arith::narrow::narrow;
+
+// An answer in numbers: refusal 0 stands for three intervals.
+pub(crate) struct Reply {
+    refusal: u64,
+    place: u64,
+    x: Interval,
+    a: Interval,
+    b: Interval,
+}
+
+pub(crate) fn ends(x: Interval, a: Interval, b: Interval) -> Reply {
+    Reply {
+        refusal: 0,
+        place: 0,
+        x,
+        a,
+        b,
+    }
+}
+
+fn refused_at(refusal: u64, place: u64) -> Reply {
+    let none = interval(0, 0);
+    Reply {
+        refusal,
+        place,
+        x: none,
+        a: none,
+        b: none,
+    }
+}
+
+pub(crate) fn refused(refusal: u64) -> Reply {
+    refused_at(refusal, 0)
+}
+
+fn reply_of(answer: Narrowed) -> Reply {
+    match answer {
+        Narrowed::Ends { x, a, b } => ends(x, a, b),
+        Narrowed::Refused(r) => refused_at(r.number, r.place),
+    }
+}
+
+fn equal_intervals(i: Interval, j: Interval) -> bool {
+    if i.low != j.low {
+        return false;
+    }
+    i.high == j.high
+}
+
+fn equal(r: Reply, s: Reply) -> bool {
+    if r.refusal != s.refusal {
+        return false;
+    }
+    if r.place != s.place {
+        return false;
+    }
+    if !equal_intervals(r.x, s.x) {
+        return false;
+    }
+    if !equal_intervals(r.a, s.a) {
+        return false;
+    }
+    equal_intervals(r.b, s.b)
+}
+
+fn put_intervals(width: u64, x: Interval, a: Interval, b: Interval) {
+    put_interval(width, x);
+    put_interval(width, a);
+    put_interval(width, b);
+}
+
+fn put_reply(width: u64, r: Reply) {
+    if r.refusal != 0 {
+        put_text(b" refused");
+        put_number(r.refusal);
+        return;
+    }
+    put_text(b" =");
+    put_intervals(width, r.x, r.a, r.b);
+}
+
+// A line with the intervals given, the answer, and whether it is the one expected.
+pub(crate) fn read_narrowing(width: u64, x: Interval, a: Interval, b: Interval, expected: Reply) {
+    let got = reply_of(narrow(width, x, a, b));
+    put_text(b"narrow");
+    put_number(width);
+    put_intervals(width, x, a, b);
+    put_reply(width, got);
+    put_verdict(equal(got, expected));
+}
+
+// All finite floats of width 64.
+pub(crate) fn all_floats() -> Interval {
+    interval(0xFFEFFFFFFFFFFFFF, 0x7FEFFFFFFFFFFFFF)
+}
+
+pub(crate) fn point(p: u64) -> Interval {
+    interval(p, p)
+}
+
+// 1 as an interval of width 64.
+pub(crate) fn one() -> Interval {
+    point(0x3FF0000000000000)
+}
+
+// 01's narrowings.
+fn read_starred() {
+    let small = interval(0xBC90000000000000, 0x3CA0000000000000);
+    read_narrowing(64, all_floats(), one(), one(), ends(small, one(), one()));
+    let one32 = point(0x3F800000);
+    let small32 = interval(0xB3000000, 0x33800000);
+    read_narrowing(
+        32,
+        interval(0xFF7FFFFF, 0x7F7FFFFF),
+        one32,
+        one32,
+        ends(small32, one32, one32),
+    );
+    let twos = interval(0x4000000000000000, 0x4000000000000001);
+    let minus_ones = interval(0xBFF0000000000002, 0xBFEFFFFFFFFFFFFF);
+    read_narrowing(64, all_floats(), twos, one(), ends(minus_ones, twos, one()));
+    let large = interval(0x4340000000000000, 0x4350000000000000);
+    let minus_large = interval(0xC350000000000000, 0xC340000000000000);
+    read_narrowing(64, large, minus_large, one(), refused(11));
+}
+
+// The sum of 01's listing.
+fn read_listing() {
+    let x = interval(0xC630000000000000, 0xC330000000000000);
+    let a = interval(0x3FF0000000000000, 0x4630000000000000);
+    let b = interval(0x3FE0000000000000, 0x3FF8000000000000);
+    let narrowed_x = interval(0xC33FFFFFFFFFFFFF, 0xC330000000000000);
+    let narrowed_a = interval(0x4330000000000001, 0x4340000000000000);
+    read_narrowing(64, x, a, b, ends(narrowed_x, narrowed_a, one()));
+}
+
+// Zero in its one pattern, the largest floats, all floats.
+fn read_extremes() {
+    let zero = point(0);
+    read_narrowing(
+        64,
+        point(0x8000000000000000),
+        zero,
+        interval(0x8000000000000000, 1),
+        ends(zero, zero, zero),
+    );
+    let largest = point(0x7FEFFFFFFFFFFFFF);
+    read_narrowing(
+        64,
+        largest,
+        interval(0, 0x7FEFFFFFFFFFFFFF),
+        all_floats(),
+        ends(largest, interval(0, 0x7C8FFFFFFFFFFFFF), largest),
+    );
+    read_narrowing(
+        64,
+        all_floats(),
+        all_floats(),
+        all_floats(),
+        ends(all_floats(), all_floats(), all_floats()),
+    );
+}
+
+// Refusals 1; 2 for each end; 3 for x, a, b.
+fn read_refusals() {
+    let crossed = interval(0x4000000000000000, 0x3FF0000000000000);
+    let infinite = interval(0, 0x7FF0000000000000);
+    read_narrowing(48, infinite, crossed, crossed, refused(1));
+    read_narrowing(
+        64,
+        interval(0xFFF0000000000000, 0),
+        crossed,
+        one(),
+        refused(2),
+    );
+    read_narrowing(64, infinite, crossed, one(), refused(2));
+    read_narrowing(64, crossed, infinite, one(), refused(2));
+    read_narrowing(64, crossed, one(), infinite, refused(2));
+    read_narrowing(64, crossed, one(), one(), refused(3));
+    read_narrowing(64, one(), crossed, one(), refused(3));
+    read_narrowing(64, one(), one(), crossed, refused(3));
+    read_narrowing(64, one(), one(), one(), refused(11));
+    read_narrowing(32, one(), one(), one(), refused(2));
+}
+
+pub(crate) fn read_narrowings() {
+    read_starred();
+    read_listing();
+    read_extremes();
+    read_refusals();
+}

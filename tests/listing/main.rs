@@ -1,0 +1,67 @@
+//! The program `narrow` against an independent reference: what it writes for each text, byte for byte.
+//!
+//! Usage: listing PROGRAM. Prints how many texts of each kind were compared and how they ended; status 1 at any difference.
+
+#[path = "../common/floats.rs"]
+mod floats;
+#[path = "../common/narrowing.rs"]
+mod narrowing;
+#[path = "../common/sheet.rs"]
+mod sheet;
+#[path = "../common/words.rs"]
+mod words;
+
+mod texts;
+
+use std::collections::BTreeMap;
+use std::io::Write;
+use std::process::{Command, Stdio};
+use texts::Case;
+
+/// What the program writes for a text.
+fn run(program: &str, text: &[u8]) -> String {
+    let mut child = Command::new(program)
+        .stdin(Stdio::piped())
+        .stdout(Stdio::piped())
+        .spawn()
+        .unwrap_or_else(|e| panic!("listing: cannot start {program}: {e}"));
+    // The program may stop reading early: a closed pipe is no fault.
+    let _ = child.stdin.take().unwrap().write_all(text);
+    let output = child.wait_with_output().expect("listing: no output");
+    assert!(output.status.success(), "listing: {program} ended with {}", output.status);
+    String::from_utf8_lossy(&output.stdout).into_owned()
+}
+
+/// Compares a kind of texts: the program with the reference, and both with the requirement where it gives the listing.
+fn compare(program: &str, kind: &str, cases: Vec<Case>) -> usize {
+    let mut endings: BTreeMap<String, usize> = BTreeMap::new();
+    let mut differences = 0;
+    for case in &cases {
+        let expected = sheet::listing(&case.text);
+        let got = run(program, &case.text);
+        let stated = case.printed.as_ref().unwrap_or(&expected);
+        if got != expected || stated != &expected {
+            differences += 1;
+            let text = String::from_utf8_lossy(&case.text[..case.text.len().min(400)]).into_owned();
+            eprintln!("listing: {kind}, {}: text {text:?}\n program   {got:?}\n reference {expected:?}\n stated    {stated:?}", case.name);
+        }
+        let words: Vec<&str> = got.split(['\t', '\n']).collect();
+        let ending = if words[0] == "refused" { words[..2].join(" ") } else { words[0].to_string() };
+        *endings.entry(ending).or_default() += 1;
+    }
+    println!("{kind}: {} texts, {differences} differed; {endings:?}", cases.len());
+    differences
+}
+
+fn main() {
+    let program = std::env::args().nth(1).expect("usage: listing PROGRAM");
+    let differences = compare(&program, "examples", texts::examples())
+        + compare(&program, "refusals", texts::refusals())
+        + compare(&program, "sizes", texts::sizes())
+        + compare(&program, "damaged", texts::damaged())
+        + compare(&program, "random", texts::random(1500));
+    if differences != 0 {
+        eprintln!("listing: {differences} differed");
+        std::process::exit(1);
+    }
+}
