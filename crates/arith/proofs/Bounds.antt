@@ -1,8 +1,7 @@
 -- Ranges of the code as intervals of `ladder`: their ends are finite in the one sense where they are in the other, and an answer for smaller ranges that lose no triple is the answer. Assumes nothing.
-use Prim.Native.Nat.{ℕ, _-_, _≤_, _<_}
 use mathlib.Core.Path.{_≡_, subst}
+use Prim.Native.Nat.{ℕ, _-_, _<_}
 use native.Mathlib.Omega.{arith}
-use Rattle.ladder.specs.Solution.{Interval}
 use Rattle.ladder.specs.Search.{Bounded, NoMultiple, raised, lowered}
 use Rattle.ladder.proofs.Solutions.{Kept, kept-x, kept-leading}
 use Rattle.ladder.proofs.Clamp.{raised-kept, raised-given, raised-bounded, lowered-kept, lowered-given, lowered-bounded}

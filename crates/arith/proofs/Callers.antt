@@ -1,5 +1,5 @@
 -- What a caller of the narrowing goes by: what an answer with ends says of the three intervals, and the answer for intervals that are not refused. Rests on `ladder`'s laws of the narrowing.
-use mathlib.Core.Path.{_≡_, refl, sym, ap, _∙_, subst}
+use mathlib.Core.Path.{_≡_, refl, sym}
 use mathlib.Core.Bool.{Bool, true, false}
 use Prim.Native.Nat.{ℕ}
 use native.Mathlib.Omega.{arith}
@@ -9,11 +9,10 @@ use Rattle.ladder.specs.Search.{Bounded}
 use Rattle.ladder.proofs.Ordinals.{pattern-finite}
 use Rattle.ladder.proofs.Hull.{narrowing-hull, hull-x, hull-a, hull-b, within-bounded}
 use Rattle.arith.specs.declared.format.Format.{Format}
-use Rattle.arith.specs.declared.range.Range.{Range}
 use Rattle.arith.specs.declared.interval.Interval.{Interval}
 use Rattle.arith.specs.declared.narrow.Narrowed.{Narrowed}
 use Rattle.arith.specs.declared.narrow.Narrowed.the-variants.{Ends, Refused}
-use Rattle.arith.specs.Refusals.{refusal, orRefuse}
+use Rattle.arith.specs.Refusals.{orRefuse}
 use Rattle.arith.specs.Formats.{isKnown, formatOf}
 use Rattle.arith.specs.Intervals.{endsFinite, isOrdered, rangeOf}
 use Rattle.arith.specs.Searches.{span, narrowing}

@@ -1,7 +1,6 @@
 -- The narrowing of ranges, carried over to the code's answers: its ends are finite where those given are, and each is written in its pattern. Assumes nothing.
 use mathlib.Core.Path.{_≡_, sym, ap}
 use Rattle.ladder.specs.Narrowing as N
-use Rattle.ladder.specs.Search.{Bounded}
 use Rattle.ladder.proofs.Hull.{narrowing-hull, hull-x, hull-a, hull-b, within-bounded}
 use Rattle.ladder.proofs.Assembly.{x-within}
 use Rattle.arith.specs.declared.format.Format.{Format}

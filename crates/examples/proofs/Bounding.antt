@@ -5,7 +5,7 @@ use Prim.Native.Nat.{ℕ, suc, _≤_, _<_}
 use native.Mathlib.Omega.{arith}
 use Rattle.ladder.specs.Sum.{sum}
 use Rattle.ladder.specs.Solution.{Interval, In, Solution}
-use Rattle.ladder.specs.Narrowing.{HasX, HasA, HasB, Spans, Hull}
+use Rattle.ladder.specs.Narrowing.{HasX, HasA, HasB, Hull}
 use Rattle.ladder.proofs.Cases.{le-or-lt}
 use Rattle.ladder.proofs.Sum.{sum-mono}
 

@@ -1,8 +1,7 @@
 -- 01's starred narrowings: each end by its triple, each bound by one sum that is computed from the definitions, or by the multiples of a power of two. Assumes nothing.
-use mathlib.Core.Path.{_≡_, refl, sym, ap, _∙_, subst}
+use mathlib.Core.Path.{refl, ap, _∙_, subst}
 use mathlib.Core.Logic.{inl, inr}
-use mathlib.Core.Bool.{true}
-use Prim.Native.Nat.{ℕ, suc, _+_, _-_, _^_, _≤_, _<_, _∣_}
+use Prim.Native.Nat.{ℕ, _+_, _-_, _^_, _<_, _∣_}
 use native.Mathlib.Omega.{arith}
 use lib.Dec.{lit<, lit≤}
 use lib.Ieee.{size}
@@ -11,8 +10,7 @@ use Rattle.ladder.specs.Rounding.{excess, round}
 use Rattle.ladder.specs.Ordinal.{sign, infinity, ordinal, pattern}
 use Rattle.ladder.specs.Sum.{rounded, sum}
 use Rattle.ladder.specs.Solution.{Interval, In, Solution}
-use Rattle.ladder.specs.Narrowing.{none, ends, narrowing, Hull}
-use Rattle.ladder.specs.Search.{NoMultiple}
+use Rattle.ladder.specs.Narrowing.{none, Hull}
 use Rattle.ladder.proofs.Cases.{le-or-lt}
 use Rattle.ladder.proofs.Hull.{hull-narrowing, none-narrowing}
 use Rattle.ladder.proofs.Solutions.{swap}
@@ -20,10 +18,10 @@ use Rattle.ladder.proofs.Granularity.{digits-free, binade-free}
 use Rattle.ladder.proofs.Clamp.{coarse, not-coarse}
 use Rattle.arith.specs.Intervals.{endsFinite, isOrdered}
 use Rattle.arith.specs.Formats.{formatOf}
-use Rattle.arith.specs.Narrows.{narrowAnswer, narrowOf}
+use Rattle.arith.specs.Narrows.{narrowAnswer}
 use Rattle.arith.proofs.Callers.{narrow-valid}
 use Rattle.examples.specs.Starred.{Narrowings, interval, point, all64, one64, all32, one32}
-use Rattle.examples.proofs.Bounding.{triple, over, under, Corners, corners-hull, x-hull}
+use Rattle.examples.proofs.Bounding.{triple, over, under, corners-hull, x-hull}
 
 abbrev span : ℕ → ℕ → Interval
 span l h = record { low = l; high = h }

@@ -25,26 +25,31 @@ pub record Sums : Type 0 where
   pub tie-32 : addOf 32 0x3F800000 0x33800000 ≡ Is 0x3F800000 1
 
 -- ---- narrowings
--- an interval, and one of a single float
+-- an interval by its ends
 abbrev pub interval : ℕ → ℕ → Interval
 interval low high = record { low = low; high = high }
 
+-- an interval of a single float
 abbrev pub point : ℕ → Interval
 point p = interval p p
 
--- every finite float, and 1
+-- every finite float of width 64
 abbrev pub all64 : Interval
 all64 = interval 0xFFEFFFFFFFFFFFFF 0x7FEFFFFFFFFFFFFF
 
+-- 1 at width 64
 abbrev pub one64 : Interval
 one64 = point 0x3FF0000000000000
 
+-- every finite float of width 32
 abbrev pub all32 : Interval
 all32 = interval 0xFF7FFFFF 0x7F7FFFFF
 
+-- 1 at width 32
 abbrev pub one32 : Interval
 one32 = point 0x3F800000
 
+-- 01's narrowings, x over all finite floats at first
 pub record Narrowings : Type 0 where
   -- a = b = 1: below 1 floats are twice as dense
   pub absorbed : narrowOf 64 all64 one64 one64 ≡ Ends (interval 0xBC90000000000000 0x3CA0000000000000) one64 one64

@@ -1,12 +1,12 @@
 -- The narrowing from its three parts: that of x, that of a as x with the operands swapped, and that of b over what x and a were narrowed to. Assumes nothing.
 use mathlib.Core.Path.{_≡_}
 use Prim.Native.Nat.{ℕ}
-use Rattle.ladder.specs.Solution.{Interval, In, Solution}
+use Rattle.ladder.specs.Solution.{Interval}
 use Rattle.ladder.specs.Narrowing.{none, ends, narrowing, HasX, HasA, HasB, Spans}
-use Rattle.ladder.specs.Search.{Never, Bounded}
+use Rattle.ladder.specs.Search.{Never}
 use Rattle.ladder.proofs.Narrowing.{narrowing-unique}
 use Rattle.ladder.proofs.Solutions.{Kept, kept-b, swap-a, swap-spans}
-use Rattle.ladder.proofs.Hull.{Within, in-within, spans-within, within-bounded}
+use Rattle.ladder.proofs.Hull.{Within, in-within, spans-within}
 
 module _ (f e : ℕ) (X A B : Interval) where
   pub never-x : Never (HasX f e X A B) → none ≡ narrowing f e X A B

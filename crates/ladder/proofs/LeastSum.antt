@@ -5,7 +5,7 @@ use Prim.Native.Nat.{ℕ, _+_, _≤_, _<_}
 use native.Mathlib.Nat.{le-refl}
 use native.Mathlib.Omega.{arith}
 use Rattle.ladder.specs.Sum.{sum}
-use Rattle.ladder.specs.Solution.{Interval, In, Solution}
+use Rattle.ladder.specs.Solution.{Interval}
 use Rattle.ladder.specs.Narrowing.{HasX, HasB}
 use Rattle.ladder.specs.Search.{Never, Least, Bracket, Leading}
 use Rattle.ladder.proofs.Cases.{le-or-lt}

@@ -1,5 +1,6 @@
+-- `arith::clamp::differing` meets its contract: the invariant: both words have dropped as many digits. Assumes nothing.
 use mathlib.Core.Path.{_≡_, sym, ap, _∙_}
-use Prim.Native.Nat.{ℕ, _≤_, _<_, _/_, _^_}
+use Prim.Native.Nat.{ℕ, _≤_, _/_, _^_}
 use native.Mathlib.Omega.{arith}
 use lib.Arith.{lt-of-le-ne}
 use lib.Pow.{shr-shr}

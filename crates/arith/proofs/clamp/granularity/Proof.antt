@@ -1,57 +1,44 @@
-use mathlib.Core.Path.{_≡_, refl, sym, ap, _∙_}
-use Prim.Native.Nat.{ℕ, _+_, _^_, _≤_}
+-- `arith::clamp::granularity` meets its contract: by the exponent fields of the two ends. Assumes nothing.
+use mathlib.Core.Path.{refl, sym, _∙_}
+use Prim.Native.Nat.{_+_, _^_, _≤_}
 use native.Mathlib.Omega.{arith}
 use lib.Pow.{pow-pos}
-use Rattle.arith.proofs.Clamping.{field, field-half, base-next, free-wide, free-low, free-high}
 use borrow.Author.Needs.{needs}
+use Rattle.arith.proofs.Clamping.{field, field-half, base-next, free-wide, free-low, free-high}
 use Rattle.arith.proofs.clamp.granularity.Statement.{statement}
 use Rattle.arith.proofs.clamp.granularity.Tie as tie
-use Rattle.arith.proofs.clamp.granularity.Reads as reads
-use Rattle.arith.proofs.clamp.granularity.Lts as lts
-use Rattle.arith.proofs.clamp.differing.Reads as differing-reads
-use Rattle.arith.proofs.words.shift_left.Reads as shift-left-reads
-use Rattle.arith.proofs.words.shift_right.Reads as shift-right-reads
 
--- src/clamp.rt:35:9
 shift-right-requires : tie.Need-shift-right-requires
 shift-right-requires c κs = search needs
 
--- src/clamp.rt:36:8
 shift-right-requires-2 : tie.Need-shift-right-requires-2
 shift-right-requires-2 c κs = search needs
 
--- src/clamp.rt:37:16
 add-result : tie.Need-add-result
 add-result c =
     let z = c .before .before .before in
     omega (arith, field-half (z .args .fraction) (c .before .before .shift-right .result) (z .args .hi) (z .pre .0 .0) (c .before .before .shift-right .ensures))
 
--- src/clamp.rt:37:9
 returns : tie.Need-returns
 returns c =
     let z = c .before .before .before in
     free-wide (z .args .fraction) (c .before .before .shift-right .result) (z .args .lo) (z .args .hi) (c .before .before .shift-right .ensures) (z .pre .1)
 
--- src/clamp.rt:40:26
 sub-differing : tie.Need-sub-differing
 sub-differing c = search needs
 
--- src/clamp.rt:40:9
 differing-requires : tie.Need-differing-requires
 differing-requires c κs = search needs
 
--- src/clamp.rt:40:9
 returns-2 : tie.Need-returns-2
 returns-2 c =
     let z = c .before .before .before .before .before in
     let q = c .before .before .before .before .shift-right in
     free-low (z .args .fraction) (q .result) (z .args .lo) (z .args .hi) (q .ensures) (c .differing .result) (c .before .if2 .taken) (z .pre .1) (c .differing .ensures .0)
 
--- src/clamp.rt:42:17
 sub-shift : tie.Need-sub-shift
 sub-shift c = search needs
 
--- src/clamp.rt:43:9
 shift-left-requires : tie.Need-shift-left-requires
 shift-left-requires c κs =
     let z = c .before .before .before .before in
@@ -66,30 +53,24 @@ based c =
     let l = field (z .args .fraction) (q .result) (z .args .lo) (sym (c .before .before .if1 .left) ∙ c .before .before .before .shift-right2 .ensures) in
     (omega arith, omega arith)
 
--- src/clamp.rt:44:15
 sub-differing-2 : tie.Need-sub-differing-2
 sub-differing-2 c = omega (arith, based c)
 
--- src/clamp.rt:44:15
 sub-differing-3 : tie.Need-sub-differing-3
 sub-differing-3 c = omega (arith, based c, pow-pos (c .before .before .before .before .before .args .fraction))
 
--- src/clamp.rt:44:30
 sub-differing-4 : tie.Need-sub-differing-4
 sub-differing-4 c = omega (arith, based c)
 
--- src/clamp.rt:44:5
 differing-requires-2 : tie.Need-differing-requires-2
 differing-requires-2 c κs = search needs
 
--- src/clamp.rt:44:5
 add-result-2 : tie.Need-add-result-2
 add-result-2 c =
     let z = c .before .before .before .before .before .before in
     let q = c .before .before .before .before .before .shift-right in
     omega (arith, field-half (z .args .fraction) (q .result) (z .args .hi) (z .pre .0 .0) (q .ensures), c .differing2 .ensures .1)
 
--- src/clamp.rt:31:1
 returns-3 : tie.Need-returns-3
 returns-3 c =
     let z = c .before .before .before .before .before .before in

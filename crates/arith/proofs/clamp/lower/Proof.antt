@@ -1,28 +1,21 @@
-use mathlib.Core.Path.{_≡_, ap, _∙_}
+-- `arith::clamp::lower` meets its contract: the mirror image of the raised mirror image. Assumes nothing.
+use mathlib.Core.Path.{ap, _∙_}
+use borrow.Author.Needs.{needs}
 use Rattle.ladder.specs.Search.{reflection, raised}
 use Rattle.ladder.proofs.Solutions.{mirror-bounded}
 use Rattle.ladder.proofs.Clamp.{raised-bounded}
 use Rattle.arith.specs.declared.range.Range.{Range}
 use Rattle.arith.specs.Searches.{span}
 use Rattle.arith.proofs.Bounds.{bounded, ends-of}
-use native.Mathlib.Omega.{arith}
-use borrow.Author.Needs.{needs}
 use Rattle.arith.proofs.clamp.lower.Statement.{statement}
 use Rattle.arith.proofs.clamp.lower.Tie as tie
-use Rattle.arith.proofs.clamp.lower.Reads as reads
-use Rattle.arith.proofs.clamp.lower.Lts as lts
-use Rattle.arith.proofs.clamp.raise.Reads as raise-reads
-use Rattle.arith.proofs.range.reflect.Reads as reflect-reads
 
--- src/clamp.rt:67:38
 reflect-requires : tie.Need-reflect-requires
 reflect-requires c κs = search needs
 
--- src/clamp.rt:67:21
 raise-requires : tie.Need-raise-requires
 raise-requires c κs = search needs
 
--- src/clamp.rt:67:5
 reflect-requires-2 : tie.Need-reflect-requires-2
 reflect-requires-2 c κs =
     let z = c .before .before in
@@ -30,7 +23,6 @@ reflect-requires-2 c κs =
     let b = raised-bounded (F .fraction) (F .exponent) (z .pre .0 .some) (z .args .k) (span (c .before .reflect .result)) (rw (c .before .reflect .ensures) (mirror-bounded (F .fraction) (F .exponent) (span (z .args .r)) (bounded (z .pre .1)))) in
     (z .pre .0, ends-of (rw (c .raise .ensures) b))
 
--- src/clamp.rt:63:1
 returns : tie.Need-returns
 returns c =
     let z = c .before .before .before in

@@ -1,32 +1,25 @@
-use mathlib.Core.Path.{_≡_, ap, _∙_}
+-- `arith::entry::put_all` meets its contract: three intervals, one after the other. Assumes nothing.
+use mathlib.Core.Path.{ap, _∙_}
+use native.Mathlib.Omega.{arith}
+use borrow.Author.Needs.{needs}
 use denote.Ref.{now}
 use Rattle.arith.specs.Exports.{endBytes, placed}
 use Rattle.arith.proofs.Placing.{placed-six}
-use native.Mathlib.Omega.{arith}
-use borrow.Author.Needs.{needs}
 use Rattle.arith.proofs.entry.put_all.Statement.{statement}
 use Rattle.arith.proofs.entry.put_all.Tie as tie
-use Rattle.arith.proofs.entry.put_all.Reads as reads
-use Rattle.arith.proofs.entry.put_all.Lts as lts
-use Rattle.arith.proofs.entry.put_ends.Reads as put-ends-reads
 
--- src/entry.rt:38:5
 put-ends-requires : tie.Need-put-ends-requires
 put-ends-requires c κs = search needs
 
--- src/entry.rt:39:5
 put-ends-requires-2 : tie.Need-put-ends-requires-2
 put-ends-requires-2 c κs = search needs
 
--- src/entry.rt:40:5
 put-ends-requires-3 : tie.Need-put-ends-requires-3
 put-ends-requires-3 c κs = search needs
 
--- src/entry.rt:34:1
 same-length : tie.Need-same-length
 same-length c = search needs
 
--- src/entry.rt:34:1
 returns : tie.Need-returns
 returns c =
     let a = c .before .before .before .before .before .before .before .before .before .before .before .before .before .args in

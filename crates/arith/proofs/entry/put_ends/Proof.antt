@@ -1,33 +1,26 @@
-use mathlib.Core.Path.{_≡_, ap, _∙_}
-use Prim.Native.Nat.{ℕ, _+_}
+-- `arith::entry::put_ends` meets its contract: two words, one after the other. Assumes nothing.
+use mathlib.Core.Path.{ap, _∙_}
+use Prim.Native.Nat.{_+_}
+use native.Mathlib.Omega.{arith}
+use borrow.Author.Needs.{needs}
 use denote.Ref.{now}
 use Rattle.arith.specs.Exports.{littleEndian, placed}
 use Rattle.arith.proofs.Placing.{placed-ends}
-use native.Mathlib.Omega.{arith}
-use borrow.Author.Needs.{needs}
 use Rattle.arith.proofs.entry.put_ends.Statement.{statement}
 use Rattle.arith.proofs.entry.put_ends.Tie as tie
-use Rattle.arith.proofs.entry.put_ends.Reads as reads
-use Rattle.arith.proofs.entry.put_ends.Lts as lts
-use Rattle.arith.proofs.entry.put_word.Reads as put-word-reads
 
--- src/entry.rt:29:5
 put-word-requires : tie.Need-put-word-requires
 put-word-requires c κs = search needs
 
--- src/entry.rt:30:19
 add-put-word : tie.Need-add-put-word
 add-put-word c = search needs
 
--- src/entry.rt:30:5
 put-word-requires-2 : tie.Need-put-word-requires-2
 put-word-requires-2 c κs = search needs
 
--- src/entry.rt:25:1
 same-length : tie.Need-same-length
 same-length c = search needs
 
--- src/entry.rt:25:1
 returns : tie.Need-returns
 returns c =
     let a = c .before .before .before .before .before .before .before .before .before .args in

@@ -1,14 +1,12 @@
+-- `arith::entry::put_word` meets its contract: the invariant: placing the bytes that are left gives the whole word placed. Assumes nothing.
 use mathlib.Core.Path.{_≡_, refl, sym, ap, _∙_}
 use Prim.Native.Nat.{ℕ, _+_, _-_, _≤_}
+use native.Mathlib.Omega.{arith}
 use lib.ListN.{length, length-set}
 use Rattle.arith.specs.Exports.{littleEndian, placed}
 use Rattle.arith.proofs.Placing.{placed-byte, placed-all}
-use native.Mathlib.Omega.{arith}
-use borrow.Author.Needs.{needs}
 use Rattle.arith.proofs.entry.put_word.Statement.{statement}
 use Rattle.arith.proofs.entry.put_word.Tie as tie
-use Rattle.arith.proofs.entry.put_word.Reads as reads
-use Rattle.arith.proofs.entry.put_word.Lts as lts
 
 abbrev Inv-loop : tie.InvT-loop
 Inv-loop out₀ at word rest₀ k₀ out rest k = (length out ≡ length out₀) × (k ≤ 8) × (placed (at + k) (littleEndian (8 - k) rest) out ≡ placed at (littleEndian 8 word) out₀)
@@ -16,45 +14,36 @@ Inv-loop out₀ at word rest₀ k₀ out rest k = (length out ≡ length out₀)
 abbrev μ-loop : tie.MeasureT-loop
 μ-loop out₀ at word rest₀ k₀ out rest k = 8 - k
 
--- src/entry.rt:18:5
 loop-holds : tie.Need-loop-holds Inv-loop μ-loop
 loop-holds c = (refl, omega arith, ap (λ (i : ℕ). placed i (littleEndian 8 (c .args .word)) (c .args .out .now)) (none (c .args .at)))
   where
     none : (i : ℕ) → i + 0 ≡ i
     none i = omega arith
 
--- src/entry.rt:19:23
 cast-out : tie.Need-cast-out Inv-loop μ-loop
 cast-out c = omega arith
 
--- src/entry.rt:19:13
 add-out : tie.Need-add-out Inv-loop μ-loop
 add-out c = omega arith
 
--- src/entry.rt:19:9
 slice-write-out : tie.Need-slice-write-out Inv-loop μ-loop
 slice-write-out c = omega arith
 
--- src/entry.rt:21:9
 add-k : tie.Need-add-k Inv-loop μ-loop
 add-k c = omega arith
 
--- src/entry.rt:18:5
 loop-less : tie.Need-loop-less Inv-loop μ-loop
 loop-less c = omega arith
 
--- src/entry.rt:18:5
 loop-again : tie.Need-loop-again Inv-loop μ-loop
 loop-again c =
     let v = c .before .loop in
     let a = c .before .before .args in
     (simp length-set (v .inv .0), omega arith, sym (placed-byte 8 (v .k) (a .at) (v .rest) (v .out) (omega arith) (omega arith)) ∙ v .inv .2)
 
--- src/entry.rt:12:1
 same-length : tie.Need-same-length Inv-loop μ-loop
 same-length c = c .before .loop .inv .0
 
--- src/entry.rt:12:1
 returns : tie.Need-returns Inv-loop μ-loop
 returns c =
     let v = c .before .loop in

@@ -1,6 +1,9 @@
+-- `arith::extent::least_b` meets its contract: the loop's invariant is the bracket around the least sum. Assumes nothing.
 use mathlib.Core.Logic.{⊎-elim}
-use Prim.Native.Nat.{ℕ, _-_, _≤_, _<_}
+use Prim.Native.Nat.{_-_, _≤_, _<_}
 use native.Mathlib.Nat.{le-refl}
+use native.Mathlib.Omega.{arith}
+use borrow.Author.Needs.{needs}
 use Rattle.ladder.specs.Search.{Bracket}
 use Rattle.ladder.proofs.Extremes.{bracket-order}
 use Rattle.ladder.proofs.Solutions.{finite-in}
@@ -8,14 +11,8 @@ use Rattle.ladder.proofs.LeastSum.{Sums, never-b, sums-start, sums-lower, sums-
 use Rattle.arith.specs.declared.solve.Pair.the-variants as Pair
 use Rattle.arith.specs.Searches.{span, LeadingOf}
 use Rattle.arith.proofs.Bounds.{bounded}
-use native.Mathlib.Omega.{arith}
-use borrow.Author.Needs.{needs}
 use Rattle.arith.proofs.extent.least_b.Statement.{statement}
 use Rattle.arith.proofs.extent.least_b.Tie as tie
-use Rattle.arith.proofs.extent.least_b.Reads as reads
-use Rattle.arith.proofs.extent.least_b.Lts as lts
-use Rattle.arith.proofs.solve.least_x.Reads as least-x-reads
-use Rattle.arith.proofs.sum.sum_of.Reads as sum-of-reads
 
 abbrev Inv-loop : tie.InvT-loop
 Inv-loop format x a p q low₀ high₀ first₀ low high first = (low₀ ≤ low) × Bracket (Sums (format .fraction) (format .exponent) (span x) (span a) low₀ high₀) low high
@@ -42,19 +39,15 @@ lowered c =
     let v = c .before .before .before .before .before .before .before .loop in
     sums-lower (F .fraction) (F .exponent) (span (z .args .x)) (span (z .args .a)) _ _ (v .low) (v .high) (c .before .before .before .before .before .if1 .middle) (v .inv .1) _ _ (c .sum-of2 .result) (v .inv .0) (middle-in (c .before .before .before .before .before) .1) (found-2 (c .before)) (c .sum-of2 .ensures)
 
--- src/extent.rt:48:35
 least-x-requires : tie.Need-least-x-requires Inv-loop μ-loop
 least-x-requires c κs = (c .pre .0, c .pre .1, c .pre .2, c .pre .3)
 
--- src/extent.rt:48:23
 enum-known-p : tie.Need-enum-known-p Inv-loop μ-loop
 enum-known-p c = search needs
 
--- src/extent.rt:49:9
 enum-told : tie.Need-enum-told Inv-loop μ-loop
 enum-told c = search needs
 
--- src/extent.rt:49:9
 returns : tie.Need-returns Inv-loop μ-loop
 returns c =
     let z = c .before .before .before in
@@ -62,7 +55,6 @@ returns c =
     let n : LeadingOf F (z .args .x) (z .args .a) (z .args .b) Pair.Absent = rw (c .enum-told .given .1) at (c .before .before .least-x .ensures) in
     never-b (F .fraction) (F .exponent) (span (z .args .x)) (span (z .args .a)) (span (z .args .b)) n
 
--- src/extent.rt:52:9
 sum-of-requires : tie.Need-sum-of-requires Inv-loop μ-loop
 sum-of-requires c κs =
     let z = c .before .before .before .before in
@@ -70,26 +62,21 @@ sum-of-requires c κs =
     let l = found c in
     (z .pre .0, finite-in (F .fraction) (F .exponent) (span (z .args .x)) (bounded (z .pre .1)) _ (l .solution .x-in), finite-in (F .fraction) (F .exponent) (span (z .args .a)) (bounded (z .pre .2)) _ (l .solution .a-in))
 
--- src/extent.rt:54:5
 loop-holds : tie.Need-loop-holds Inv-loop μ-loop
 loop-holds c =
     let z = c .before .before .before .before .before in
     let F = z .args .format in
     (le-refl _, sums-start (F .fraction) (F .exponent) (span (z .args .x)) (span (z .args .a)) (span (z .args .b)) _ _ _ (found (c .before)) (c .sum-of .ensures))
 
--- src/extent.rt:56:13
 sub-middle : tie.Need-sub-middle Inv-loop μ-loop
 sub-middle c = omega arith
 
--- src/extent.rt:58:20
 sub-middle-2 : tie.Need-sub-middle-2 Inv-loop μ-loop
 sub-middle-2 c = omega arith
 
--- src/extent.rt:58:13
 add-middle : tie.Need-add-middle Inv-loop μ-loop
 add-middle c = omega arith
 
--- src/extent.rt:60:15
 least-x-requires-2 : tie.Need-least-x-requires-2 Inv-loop μ-loop
 least-x-requires-2 c κs =
     let z = c .before .before .before .before .before .before .before .before in
@@ -100,11 +87,9 @@ least-x-requires-2 c κs =
     let l = found (c .before .before .before .before) .solution .b-in in
     (z .pre .0, z .pre .1, z .pre .2, record { low = record { low = omega arith; high = omega arith }; high = record { low = omega arith; high = omega arith } })
 
--- src/extent.rt:61:27
 enum-known-p-2 : tie.Need-enum-known-p-2 Inv-loop μ-loop
 enum-known-p-2 c = search needs
 
--- src/extent.rt:61:40
 sum-of-requires-2 : tie.Need-sum-of-requires-2 Inv-loop μ-loop
 sum-of-requires-2 c κs =
     let z = c .before .before .before .before .before .before .before .before .before .before .before .before in
@@ -112,27 +97,21 @@ sum-of-requires-2 c κs =
     let l = found-2 c in
     (z .pre .0, finite-in (F .fraction) (F .exponent) (span (z .args .x)) (bounded (z .pre .1)) _ (l .solution .x-in), finite-in (F .fraction) (F .exponent) (span (z .args .a)) (bounded (z .pre .2)) _ (l .solution .a-in))
 
--- src/extent.rt:62:35
 enum-told-2 : tie.Need-enum-told-2 Inv-loop μ-loop
 enum-told-2 c = search needs
 
--- src/extent.rt:62:35
 add-low : tie.Need-add-low Inv-loop μ-loop
 add-low c = let m = middle-in (c .before .before .before .before) in omega arith
 
--- src/extent.rt:54:5
 loop-less : tie.Need-loop-less Inv-loop μ-loop
 loop-less c = let b = lowered c in omega (arith, b .1, bracket-order (b .0))
 
--- src/extent.rt:54:5
 loop-again : tie.Need-loop-again Inv-loop μ-loop
 loop-again c = (c .before .before .before .before .before .before .before .loop .inv .0, lowered c .0)
 
--- src/extent.rt:54:5
 loop-less-2 : tie.Need-loop-less-2 Inv-loop μ-loop
 loop-less-2 c = let m = middle-in (c .before .before .before .before) in omega arith
 
--- src/extent.rt:54:5
 loop-again-2 : tie.Need-loop-again-2 Inv-loop μ-loop
 loop-again-2 c =
     let z = c .before .before .before .before .before .before .before .before .before .before .before .before in
@@ -142,7 +121,6 @@ loop-again-2 c =
     let n : LeadingOf F (z .args .x) (z .args .a) (record { low = v .low; high = c .before .before .before .before .if1 .middle }) Pair.Absent = rw (c .before .enum-told2 .given .1) at (c .before .before .before .least-x2 .ensures) in
     (omega (arith, v .inv .0), sums-raise (F .fraction) (F .exponent) (span (z .args .x)) (span (z .args .a)) _ _ (v .low) (v .high) _ (v .inv .1) n)
 
--- src/extent.rt:44:1
 returns-2 : tie.Need-returns-2 Inv-loop μ-loop
 returns-2 c =
     let z = c .before .before .before .before .before .before .before in

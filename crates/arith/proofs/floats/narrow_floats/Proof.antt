@@ -1,19 +1,15 @@
+-- `arith::floats::narrow_floats` meets its contract: the answer of the narrowing, case by case. Assumes nothing.
 use mathlib.Core.Path.{_≡_, sym}
 use mathlib.Core.Bool.{true}
+use borrow.Author.Needs.{needs}
 use Rattle.arith.specs.declared.narrow.Narrowed.the-variants.{Ends, Refused}
 use Rattle.arith.specs.Formats.{formatOf}
 use Rattle.arith.specs.Intervals.{endsFinite}
 use Rattle.arith.specs.Narrows.{narrowOf}
 use Rattle.arith.proofs.Callers.{narrow-answered, answered-finite}
 use Rattle.arith.proofs.Floating.{floats-ends, floats-none, floats-refused}
-use native.Mathlib.Omega.{arith}
-use borrow.Author.Needs.{needs}
 use Rattle.arith.proofs.floats.narrow_floats.Statement.{statement}
 use Rattle.arith.proofs.floats.narrow_floats.Tie as tie
-use Rattle.arith.proofs.floats.narrow_floats.Reads as reads
-use Rattle.arith.proofs.floats.narrow_floats.Lts as lts
-use Rattle.arith.proofs.floats.floats_of.Reads as floats-of-reads
-use Rattle.arith.proofs.narrow.narrow.Reads as narrow-reads
 
 -- the answer has finite ends
 ends-are : (c : tie.After-known-told) → let a = c .before .before .before .before .args in Ends (c .before .p .given .0 .0) (c .before .p .given .0 .1 .0) (c .before .p .given .0 .1 .1 .0) ≡ narrowOf 64 (a .x) (a .a) (a .b)
@@ -24,44 +20,35 @@ finite c =
     let a = c .before .before .before .before .args in
     answered-finite 64 (a .x) (a .a) (a .b) _ _ _ (narrow-answered 64 (a .x) (a .a) (a .b) _ _ _ (sym (ends-are c)))
 
--- src/floats.rt:40:11
 narrow-requires : tie.Need-narrow-requires
 narrow-requires c κs = search needs
 
--- src/floats.rt:41:29
 enum-known-p : tie.Need-enum-known-p
 enum-known-p c = search needs
 
--- src/floats.rt:42:16
 floats-of-requires : tie.Need-floats-of-requires
 floats-of-requires c κs = finite c .0
 
--- src/floats.rt:43:16
 floats-of-requires-2 : tie.Need-floats-of-requires-2
 floats-of-requires-2 c κs = finite (c .before) .1
 
--- src/floats.rt:44:16
 floats-of-requires-3 : tie.Need-floats-of-requires-3
 floats-of-requires-3 c κs = finite (c .before .before) .2
 
--- src/floats.rt:46:27
 enum-known-refusal : tie.Need-enum-known-refusal
 enum-known-refusal c = search needs
 
--- src/floats.rt:37:1
 returns : tie.Need-returns
 returns c =
     let a = c .before .before .before .before .before .before .before .args in
     floats-ends (a .x) (a .a) (a .b) _ _ _ _ _ _ (c .before .before .floats-of .ensures) (c .before .floats-of2 .ensures) (c .floats-of3 .ensures) (ends-are (c .before .before .before))
 
--- src/floats.rt:37:1
 returns-2 : tie.Need-returns-2
 returns-2 c =
     let a = c .before .before .before .before .before .before .args in
     let e : Refused (c .before .before .before .refusal .given .0 .0) ≡ narrowOf 64 (a .x) (a .a) (a .b) = rw (c .before .before .before .refusal .given .1) at (c .before .before .before .before .before .narrow .ensures) in
     floats-none (a .x) (a .a) (a .b) _ (c .if1 .taken) e
 
--- src/floats.rt:37:1
 returns-3 : tie.Need-returns-3
 returns-3 c =
     let a = c .before .before .before .before .before .before .args in

@@ -1,45 +1,33 @@
+-- `arith::narrow::narrow` meets its contract: refusal 1, then the answer in the format. Assumes nothing.
 use mathlib.Core.Path.{sym, ap, _∙_, subst}
+use borrow.Author.Needs.{needs}
 use Rattle.arith.specs.declared.format.Format.{Format}
 use Rattle.arith.specs.declared.narrow.Narrowed.the-variants.{Refused}
 use Rattle.arith.specs.Formats.{Sound}
 use Rattle.arith.specs.Narrows.{narrowIn, narrowOf}
 use Rattle.arith.proofs.Refusing.{refused, passed, holds, fails}
 use Rattle.arith.proofs.Formats.{sound}
-use native.Mathlib.Omega.{arith}
-use borrow.Author.Needs.{needs}
 use Rattle.arith.proofs.narrow.narrow.Statement.{statement}
 use Rattle.arith.proofs.narrow.narrow.Tie as tie
-use Rattle.arith.proofs.narrow.narrow.Reads as reads
-use Rattle.arith.proofs.narrow.narrow.Lts as lts
-use Rattle.arith.proofs.format.format_of.Reads as format-of-reads
-use Rattle.arith.proofs.format.known.Reads as known-reads
-use Rattle.arith.proofs.narrow.narrow_in.Reads as narrow-in-reads
-use Rattle.arith.proofs.refusal.refuse.Reads as refuse-reads
 
--- src/narrow.rt:117:9
 known-requires : tie.Need-known-requires
 known-requires c κs = search needs
 
--- src/narrow.rt:118:34
 refuse-requires : tie.Need-refuse-requires
 refuse-requires c κs = search needs
 
--- src/narrow.rt:118:9
 returns : tie.Need-returns
 unfolding narrowOf
 returns c =
     let t = c .before in
     refused Refused 1 _ _ (c .refuse .ensures) (fails (t .before .known .ensures) (t .if1 .taken))
 
--- src/narrow.rt:120:15
 format-of-requires : tie.Need-format-of-requires
 format-of-requires c κs = search needs
 
--- src/narrow.rt:120:5
 narrow-in-requires : tie.Need-narrow-in-requires
 narrow-in-requires c κs = subst Sound (sym (c .format-of .ensures)) (sound (c .before .before .before .args .width))
 
--- src/narrow.rt:114:1
 returns-2 : tie.Need-returns-2
 unfolding narrowOf
 returns-2 c =

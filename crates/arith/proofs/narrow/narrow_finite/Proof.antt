@@ -1,17 +1,12 @@
+-- `arith::narrow::narrow_finite` meets its contract: the ends found are finite, and written in their patterns. Assumes nothing.
 use mathlib.Core.Path.{_≡_}
+use borrow.Author.Needs.{needs}
 use Rattle.arith.specs.declared.narrow.Ranges.the-variants.{None, Ends}
 use Rattle.arith.specs.Intervals as I
 use Rattle.arith.specs.Searches.{narrowingIn, narrowing}
 use Rattle.arith.proofs.Narrowings.{narrowed-ends, answer-none, answer-ends}
-use native.Mathlib.Omega.{arith}
-use borrow.Author.Needs.{needs}
 use Rattle.arith.proofs.narrow.narrow_finite.Statement.{statement}
 use Rattle.arith.proofs.narrow.narrow_finite.Tie as tie
-use Rattle.arith.proofs.narrow.narrow_finite.Reads as reads
-use Rattle.arith.proofs.narrow.narrow_finite.Lts as lts
-use Rattle.arith.proofs.interval.interval_of.Reads as interval-of-reads
-use Rattle.arith.proofs.narrow.narrow_ranges.Reads as narrow-ranges-reads
-use Rattle.arith.proofs.refusal.refuse.Reads as refuse-reads
 
 -- what the ranges were narrowed to
 ends-are : (c : tie.After-known-told) → let z = c .before .before .before .before .args in narrowingIn (Ends (c .before .p .given .0 .0) (c .before .p .given .0 .1 .0) (c .before .p .given .0 .1 .1 .0)) ≡ narrowing (z .format) (z .x) (z .a) (z .b)
@@ -22,35 +17,27 @@ ends-finite c =
     let z = c .before .before .before .before in
     narrowed-ends (z .args .format) (z .args .x) (z .args .a) (z .args .b) _ _ _ (ends-are c) (z .pre .1) (z .pre .2) (z .pre .3)
 
--- src/narrow.rt:64:11
 narrow-ranges-requires : tie.Need-narrow-ranges-requires
 narrow-ranges-requires c κs = search needs
 
--- src/narrow.rt:65:43
 enum-told : tie.Need-enum-told
 enum-told c = search needs
 
--- src/narrow.rt:65:43
 refuse-requires : tie.Need-refuse-requires
 refuse-requires c κs = search needs
 
--- src/narrow.rt:66:27
 enum-known-p : tie.Need-enum-known-p
 enum-known-p c = search needs
 
--- src/narrow.rt:67:16
 interval-of-requires : tie.Need-interval-of-requires
 interval-of-requires c κs = (c .before .before .before .before .pre .0, ends-finite c .0)
 
--- src/narrow.rt:68:16
 interval-of-requires-2 : tie.Need-interval-of-requires-2
 interval-of-requires-2 c κs = (c .before .before .before .before .before .pre .0, ends-finite (c .before) .1)
 
--- src/narrow.rt:69:16
 interval-of-requires-3 : tie.Need-interval-of-requires-3
 interval-of-requires-3 c κs = (c .before .before .before .before .before .before .pre .0, ends-finite (c .before .before) .2)
 
--- src/narrow.rt:60:1
 returns : tie.Need-returns
 returns c =
     let z = c .before .before .before .before in
@@ -58,7 +45,6 @@ returns c =
     let n : narrowingIn None ≡ narrowing F (z .args .x) (z .args .a) (z .args .b) = rw (c .before .enum-told .given .1) at (c .before .before .before .narrow-ranges .ensures) in
     answer-none F _ _ (c .refuse .ensures) n
 
--- src/narrow.rt:60:1
 returns-2 : tie.Need-returns-2
 returns-2 c = answer-ends (c .before .before .before .before .before .before .before .args .format) _ _ _ _ _ _ _ (c .before .before .interval-of .ensures) (c .before .interval-of2 .ensures) (c .interval-of3 .ensures) (ends-are (c .before .before .before))
 

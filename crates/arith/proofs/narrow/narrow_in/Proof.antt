@@ -1,20 +1,14 @@
+-- `arith::narrow::narrow_in` meets its contract: refusal 2 for x, a, b, then the answer for the ranges. Assumes nothing.
 use mathlib.Core.Path.{_≡_}
 use mathlib.Core.Bool.{true}
+use borrow.Author.Needs.{needs}
 use Rattle.arith.specs.declared.narrow.Narrowed.the-variants.{Refused}
 use Rattle.arith.specs.Intervals.{endsFinite}
 use Rattle.arith.specs.Narrows.{narrowIn}
 use Rattle.arith.proofs.Refusing.{refused, passed, holds, fails}
 use Rattle.arith.proofs.Intervals.{range-ends}
-use native.Mathlib.Omega.{arith}
-use borrow.Author.Needs.{needs}
 use Rattle.arith.proofs.narrow.narrow_in.Statement.{statement}
 use Rattle.arith.proofs.narrow.narrow_in.Tie as tie
-use Rattle.arith.proofs.narrow.narrow_in.Reads as reads
-use Rattle.arith.proofs.narrow.narrow_in.Lts as lts
-use Rattle.arith.proofs.interval.ends_finite.Reads as ends-finite-reads
-use Rattle.arith.proofs.interval.range_of.Reads as range-of-reads
-use Rattle.arith.proofs.narrow.narrow_ordered.Reads as narrow-ordered-reads
-use Rattle.arith.proofs.refusal.refuse.Reads as refuse-reads
 
 -- every end is finite
 finite-ends : (c : tie.Else3) → let a = c .before .before .before .before .before .before .args in (endsFinite (a .format) (a .x) ≡ true) × (endsFinite (a .format) (a .a) ≡ true) × (endsFinite (a .format) (a .b) ≡ true)
@@ -23,30 +17,24 @@ finite-ends c =
     let s1 = s2 .before .before in
     (holds (s1 .before .ends-finite .ensures) (s1 .if1 .left), holds (s2 .before .ends-finite2 .ensures) (s2 .if2 .left), holds (c .before .ends-finite3 .ensures) (c .if3 .left))
 
--- src/narrow.rt:96:9
 ends-finite-requires : tie.Need-ends-finite-requires
 ends-finite-requires c κs = search needs
 
--- src/narrow.rt:97:34
 refuse-requires : tie.Need-refuse-requires
 refuse-requires c κs = search needs
 
--- src/narrow.rt:97:9
 returns : tie.Need-returns
 unfolding narrowIn
 returns c =
     let t = c .before in
     refused Refused 2 _ _ (c .refuse .ensures) (fails (t .before .ends-finite .ensures) (t .if1 .taken))
 
--- src/narrow.rt:99:9
 ends-finite-requires-2 : tie.Need-ends-finite-requires-2
 ends-finite-requires-2 c κs = search needs
 
--- src/narrow.rt:100:34
 refuse-requires-2 : tie.Need-refuse-requires-2
 refuse-requires-2 c κs = search needs
 
--- src/narrow.rt:100:9
 returns-2 : tie.Need-returns-2
 unfolding narrowIn
 returns-2 c =
@@ -55,15 +43,12 @@ returns-2 c =
     passed Refused 2 _ _ (holds (s1 .before .ends-finite .ensures) (s1 .if1 .left))
     (refused Refused 2 _ _ (c .refuse2 .ensures) (fails (t .before .ends-finite2 .ensures) (t .if2 .taken)))
 
--- src/narrow.rt:102:9
 ends-finite-requires-3 : tie.Need-ends-finite-requires-3
 ends-finite-requires-3 c κs = search needs
 
--- src/narrow.rt:103:34
 refuse-requires-3 : tie.Need-refuse-requires-3
 refuse-requires-3 c κs = search needs
 
--- src/narrow.rt:103:9
 returns-3 : tie.Need-returns-3
 unfolding narrowIn
 returns-3 c =
@@ -74,25 +59,20 @@ returns-3 c =
     (passed Refused 2 _ _ (holds (s2 .before .ends-finite2 .ensures) (s2 .if2 .left))
     (refused Refused 2 _ _ (c .refuse3 .ensures) (fails (t .before .ends-finite3 .ensures) (t .if3 .taken))))
 
--- src/narrow.rt:107:9
 range-of-requires : tie.Need-range-of-requires
 range-of-requires c κs = (c .before .before .before .before .before .before .pre, finite-ends c .0)
 
--- src/narrow.rt:108:9
 range-of-requires-2 : tie.Need-range-of-requires-2
 range-of-requires-2 c κs = (c .before .before .before .before .before .before .before .pre, finite-ends (c .before) .1)
 
--- src/narrow.rt:109:9
 range-of-requires-3 : tie.Need-range-of-requires-3
 range-of-requires-3 c κs = (c .before .before .before .before .before .before .before .before .pre, finite-ends (c .before .before) .2)
 
--- src/narrow.rt:105:5
 narrow-ordered-requires : tie.Need-narrow-ordered-requires
 narrow-ordered-requires c κs =
     let h = finite-ends (c .before .before .before) in
     (c .before .before .before .before .before .before .before .before .before .pre, range-ends _ _ _ (c .before .before .range-of .ensures) (h .0), range-ends _ _ _ (c .before .range-of2 .ensures) (h .1), range-ends _ _ _ (c .range-of3 .ensures) (h .2))
 
--- src/narrow.rt:92:1
 returns-4 : tie.Need-returns-4
 unfolding narrowIn
 returns-4 c =

@@ -1,40 +1,29 @@
+-- `arith::narrow::narrow_ordered` meets its contract: refusal 3 for x, a, b, then the answer. Assumes nothing.
+use borrow.Author.Needs.{needs}
 use Rattle.arith.specs.declared.narrow.Narrowed.the-variants.{Refused}
 use Rattle.arith.specs.Narrows.{narrowOrdered}
 use Rattle.arith.proofs.Refusing.{refused, passed, holds, fails}
-use native.Mathlib.Omega.{arith}
-use borrow.Author.Needs.{needs}
 use Rattle.arith.proofs.narrow.narrow_ordered.Statement.{statement}
 use Rattle.arith.proofs.narrow.narrow_ordered.Tie as tie
-use Rattle.arith.proofs.narrow.narrow_ordered.Reads as reads
-use Rattle.arith.proofs.narrow.narrow_ordered.Lts as lts
-use Rattle.arith.proofs.narrow.narrow_finite.Reads as narrow-finite-reads
-use Rattle.arith.proofs.range.ordered.Reads as ordered-reads
-use Rattle.arith.proofs.refusal.refuse.Reads as refuse-reads
 
--- src/narrow.rt:79:9
 ordered-requires : tie.Need-ordered-requires
 ordered-requires c κs = search needs
 
--- src/narrow.rt:80:34
 refuse-requires : tie.Need-refuse-requires
 refuse-requires c κs = search needs
 
--- src/narrow.rt:80:9
 returns : tie.Need-returns
 unfolding narrowOrdered
 returns c =
     let t = c .before in
     refused Refused 3 _ _ (c .refuse .ensures) (fails (t .before .ordered .ensures) (t .if1 .taken))
 
--- src/narrow.rt:82:9
 ordered-requires-2 : tie.Need-ordered-requires-2
 ordered-requires-2 c κs = search needs
 
--- src/narrow.rt:83:34
 refuse-requires-2 : tie.Need-refuse-requires-2
 refuse-requires-2 c κs = search needs
 
--- src/narrow.rt:83:9
 returns-2 : tie.Need-returns-2
 unfolding narrowOrdered
 returns-2 c =
@@ -43,15 +32,12 @@ returns-2 c =
     passed Refused 3 _ _ (holds (s1 .before .ordered .ensures) (s1 .if1 .left))
     (refused Refused 3 _ _ (c .refuse2 .ensures) (fails (t .before .ordered2 .ensures) (t .if2 .taken)))
 
--- src/narrow.rt:85:9
 ordered-requires-3 : tie.Need-ordered-requires-3
 ordered-requires-3 c κs = search needs
 
--- src/narrow.rt:86:34
 refuse-requires-3 : tie.Need-refuse-requires-3
 refuse-requires-3 c κs = search needs
 
--- src/narrow.rt:86:9
 returns-3 : tie.Need-returns-3
 unfolding narrowOrdered
 returns-3 c =
@@ -62,11 +48,9 @@ returns-3 c =
     (passed Refused 3 _ _ (holds (s2 .before .ordered2 .ensures) (s2 .if2 .left))
     (refused Refused 3 _ _ (c .refuse3 .ensures) (fails (t .before .ordered3 .ensures) (t .if3 .taken))))
 
--- src/narrow.rt:88:5
 narrow-finite-requires : tie.Need-narrow-finite-requires
 narrow-finite-requires c κs = search needs
 
--- src/narrow.rt:75:1
 returns-4 : tie.Need-returns-4
 unfolding narrowOrdered
 returns-4 c =

@@ -1,21 +1,15 @@
-use Prim.Native.Nat.{ℕ, _≤_, _<_, _+_, _-_}
-use native.Mathlib.Nat.{le-refl}
+-- `arith::operand::search_operand` meets its contract: the loop's invariant is the bracket around the least operand. Assumes nothing.
 use mathlib.Core.Logic.{⊎-elim, inl, inr}
-use Rattle.ladder.specs.Search.{Bracket}
-use Rattle.ladder.proofs.Extremes.{bracket-least}
-use Rattle.arith.proofs.Probing.{probed}
-use Rattle.arith.specs.Searches.{Attains, span}
+use Prim.Native.Nat.{_≤_, _<_, _-_}
+use native.Mathlib.Nat.{le-refl}
 use native.Mathlib.Omega.{arith}
 use borrow.Author.Needs.{needs}
+use Rattle.ladder.specs.Search.{Bracket}
+use Rattle.ladder.proofs.Extremes.{bracket-least}
+use Rattle.arith.specs.Searches.{Attains, span}
+use Rattle.arith.proofs.Probing.{probed}
 use Rattle.arith.proofs.operand.search_operand.Statement.{statement}
 use Rattle.arith.proofs.operand.search_operand.Tie as tie
-use Rattle.arith.proofs.operand.search_operand.Reads as reads
-use Rattle.arith.proofs.operand.search_operand.Lts as lts
-use Rattle.arith.proofs.operand.guess.Reads as guess-reads
-use Rattle.arith.proofs.operand.probe.Reads as probe-reads
-use Rattle.arith.proofs.sum.sum_of.Reads as sum-of-reads
-use Rattle.std.proofs.num.wrapping_add_u64.Reads as wrapping-add-u64-reads
-use Rattle.std.proofs.num.wrapping_sub_u64.Reads as wrapping-sub-u64-reads
 
 abbrev Inv-loop : tie.InvT-loop
 Inv-loop format a b low₀ high₀ at₀ stride₀ low high at stride = (low₀ ≤ low) × Bracket (Attains format a b (record { low = low₀; high = high₀ })) low high
@@ -23,19 +17,15 @@ Inv-loop format a b low₀ high₀ at₀ stride₀ low high at stride = (low₀ 
 abbrev μ-loop : tie.MeasureT-loop
 μ-loop format a b low₀ high₀ at₀ stride₀ low high at stride = high - low
 
--- src/operand.rt:44:9
 guess-requires : tie.Need-guess-requires Inv-loop μ-loop
 guess-requires c κs = search needs
 
--- src/operand.rt:46:5
 loop-holds : tie.Need-loop-holds Inv-loop μ-loop
 loop-holds c = let z = c .before in (le-refl _, record { holds = z .pre .4; below = λ y t. t .inside .low })
 
--- src/operand.rt:47:13
 probe-requires : tie.Need-probe-requires Inv-loop μ-loop
 probe-requires c κs = omega arith
 
--- src/operand.rt:48:12
 sum-of-requires : tie.Need-sum-of-requires Inv-loop μ-loop
 sum-of-requires c κs =
     let z = c .before .before .before .before in
@@ -43,19 +33,15 @@ sum-of-requires c κs =
     let t = i .1 .holds .inside in
     (z .pre .0, record { low = omega arith; high = omega arith }, z .pre .1)
 
--- src/operand.rt:49:19
 add-low : tie.Need-add-low Inv-loop μ-loop
 add-low c = omega arith
 
--- src/operand.rt:50:13
 wrapping-add-u64-requires : tie.Need-wrapping-add-u64-requires Inv-loop μ-loop
 wrapping-add-u64-requires c κs = search needs
 
--- src/operand.rt:53:13
 wrapping-sub-u64-requires : tie.Need-wrapping-sub-u64-requires Inv-loop μ-loop
 wrapping-sub-u64-requires c κs = search needs
 
--- src/operand.rt:55:9
 wrapping-add-u64-requires-2 : tie.Need-wrapping-add-u64-requires-2 Inv-loop μ-loop
 wrapping-add-u64-requires-2 c κs = search needs
 
@@ -69,15 +55,12 @@ looked c =
     probed (F .fraction) (F .exponent) (z .args .a) (z .args .b) (v .low) (v .high) (c .before .before .before .probe .result) (w .low) (w .high) (span (z .args .r)) (z .pre .0 .some) (v .inv) (omega arith) (omega arith)
     (⊎-elim (λ g. inl (omega arith, omega arith, omega arith)) (λ g. inr (omega arith, omega arith, omega arith)) (w .came))
 
--- src/operand.rt:46:5
 loop-less : tie.Need-loop-less Inv-loop μ-loop
 loop-less c = looked c .1
 
--- src/operand.rt:46:5
 loop-again : tie.Need-loop-again Inv-loop μ-loop
 loop-again c = looked c .0
 
--- src/operand.rt:38:1
 returns : tie.Need-returns Inv-loop μ-loop
 returns c = bracket-least (c .before .loop .inv .1) (c .loop-test .left)
 

@@ -1,16 +1,13 @@
-use Prim.Native.Nat.{ℕ, _-_, _≤_, _<_}
-use Rattle.arith.specs.Formats.{sum}
+-- `arith::solve::advance` meets its contract: one turn at the frontier. Assumes nothing.
+use Prim.Native.Nat.{_-_, _≤_, _<_}
 use native.Mathlib.Omega.{arith}
+use borrow.Author.Needs.{needs}
 use Rattle.ladder.proofs.Frontier.{frontier-past, frontier-empty, frontier-hit, frontier-next, frontier-end, above-low}
 use Rattle.arith.specs.declared.operand.Found.the-variants.{At, Absent}
+use Rattle.arith.specs.Formats.{sum}
 use Rattle.arith.specs.Searches.{span, Attains, LeastOf}
-use borrow.Author.Needs.{needs}
 use Rattle.arith.proofs.solve.advance.Statement.{statement}
 use Rattle.arith.proofs.solve.advance.Tie as tie
-use Rattle.arith.proofs.solve.advance.Reads as reads
-use Rattle.arith.proofs.solve.advance.Lts as lts
-use Rattle.arith.proofs.operand.least_operand.Reads as least-operand-reads
-use Rattle.arith.proofs.sum.sum_of.Reads as sum-of-reads
 
 -- the least a that makes the sum large enough
 found : (c : tie.After-known-told) → let z = c .before .before .before .before .before .before .before .args in LeastOf (Attains (z .format) (z .at) (z .b .low) (z .a)) (At (c .before .c .given .0 .0))
@@ -20,30 +17,24 @@ found c = rw (c .before .c .given .1) at (c .before .before .before .least-opera
 over : (c : tie.Else2) → let z = c .before .before .before .before .before .before .before .before .before .before .args in (z .b .high < sum (z .format) (z .at) (c .before .before .before .before .c .given .0 .0)) × (sum (z .format) (z .at) (z .a .low) ≤ z .b .high)
 over c = (omega arith, omega arith)
 
--- src/solve.rt:33:17
 sum-of-requires : tie.Need-sum-of-requires
 sum-of-requires c κs = search needs
 
--- src/solve.rt:34:9
 returns : tie.Need-returns
 returns c =
     let z = c .before .before .before in
     let F = z .args .format in
     frontier-past (F .fraction) (F .exponent) (z .pre .0 .some) (span (z .args .x)) (span (z .args .a)) (span (z .args .b)) (z .args .at) (z .pre .4) (omega arith)
 
--- src/solve.rt:36:24
 least-operand-requires : tie.Need-least-operand-requires
 least-operand-requires c κs = search needs
 
--- src/solve.rt:36:19
 enum-known-c : tie.Need-enum-known-c
 enum-known-c c = search needs
 
--- src/solve.rt:37:9
 enum-told : tie.Need-enum-told
 enum-told c = search needs
 
--- src/solve.rt:37:9
 returns-2 : tie.Need-returns-2
 returns-2 c =
     let z = c .before .before .before .before .before .before in
@@ -51,7 +42,6 @@ returns-2 c =
     let n : LeastOf (Attains F (z .args .at) (z .args .b .low) (z .args .a)) Absent = rw (c .enum-told .given .1) at (c .before .before .least-operand .ensures) in
     frontier-empty (F .fraction) (F .exponent) (z .pre .0 .some) (span (z .args .x)) (span (z .args .a)) (span (z .args .b)) (z .args .at) (z .pre .4) n
 
--- src/solve.rt:39:8
 sum-of-requires-2 : tie.Need-sum-of-requires-2
 sum-of-requires-2 c κs =
     let z = c .before .before .before .before .before .before .before in
@@ -60,21 +50,18 @@ sum-of-requires-2 c κs =
     let i = z .pre .4 .inside in
     (z .pre .0, record { low = omega arith; high = omega arith }, record { low = omega arith; high = omega arith })
 
--- src/solve.rt:40:9
 returns-3 : tie.Need-returns-3
 returns-3 c =
     let z = c .before .before .before .before .before .before .before .before .before .before in
     let F = z .args .format in
     frontier-hit (F .fraction) (F .exponent) (z .pre .0 .some) (span (z .args .x)) (span (z .args .a)) (span (z .args .b)) (z .args .at) (z .pre .4) _ (found (c .before .before .before)) (omega arith)
 
--- src/solve.rt:46:33
 sub-least-operand : tie.Need-sub-least-operand
 sub-least-operand c =
     let z = c .before .before .before .before .before .before .before .before .before .before in
     let F = z .args .format in
     omega (arith, above-low (F .fraction) (F .exponent) (z .pre .0 .some) (span (z .args .x)) (span (z .args .a)) (span (z .args .b)) (z .args .at) (z .pre .4) _ (found (c .before .before .before)) (over c .0) (over c .1))
 
--- src/solve.rt:46:11
 least-operand-requires-2 : tie.Need-least-operand-requires-2
 least-operand-requires-2 c κs =
     let z = c .before .before .before .before .before .before .before .before .before .before in
@@ -84,15 +71,12 @@ least-operand-requires-2 c κs =
     let g = above-low (F .fraction) (F .exponent) (z .pre .0 .some) (span (z .args .x)) (span (z .args .a)) (span (z .args .b)) (z .args .at) (z .pre .4) _ (found (c .before .before .before)) (over c .0) (over c .1) in
     (z .pre .0, record { low = omega arith; high = omega arith }, z .pre .3 .low, record { low = record { low = omega arith; high = omega arith }; high = z .pre .1 .high })
 
--- src/solve.rt:47:19
 enum-known-y : tie.Need-enum-known-y
 enum-known-y c = search needs
 
--- src/solve.rt:48:26
 enum-told-2 : tie.Need-enum-told-2
 enum-told-2 c = search needs
 
--- src/solve.rt:29:1
 returns-4 : tie.Need-returns-4
 returns-4 c =
     let z = c .before .before .before .before .before .before .before .before .before .before .before .before .before .before in
@@ -100,7 +84,6 @@ returns-4 c =
     let m : LeastOf (Attains F (c .before .before .before .before .before .before .before .before .c .given .0 .0 - 1) (z .args .b .low) (record { low = z .args .at; high = z .args .x .high })) (At (c .before .y .given .0 .0)) = rw (c .before .y .given .1) at (c .before .before .before .least-operand2 .ensures) in
     frontier-next (F .fraction) (F .exponent) (z .pre .0 .some) (span (z .args .x)) (span (z .args .a)) (span (z .args .b)) (z .args .at) (z .pre .4) _ (found (c .before .before .before .before .before .before .before)) (over (c .before .before .before .before) .0) (over (c .before .before .before .before) .1) _ m
 
--- src/solve.rt:29:1
 returns-5 : tie.Need-returns-5
 returns-5 c =
     let z = c .before .before .before .before .before .before .before .before .before .before .before .before .before in

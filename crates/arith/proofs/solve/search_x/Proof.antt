@@ -1,16 +1,13 @@
-use Prim.Native.Nat.{ℕ, _-_}
+-- `arith::solve::search_x` meets its contract: the loop's invariant is the frontier, and x grows. Assumes nothing.
+use Prim.Native.Nat.{_-_}
 use native.Mathlib.Omega.{arith}
+use borrow.Author.Needs.{needs}
 use Rattle.ladder.proofs.Frontier.{frontier-start, frontier-none}
 use Rattle.arith.specs.declared.operand.Found.the-variants.{At, Absent}
 use Rattle.arith.specs.declared.solve.Turn.the-variants.{Next}
 use Rattle.arith.specs.Searches.{span, Attains, LeastOf, Frontier, TurnOf}
-use borrow.Author.Needs.{needs}
 use Rattle.arith.proofs.solve.search_x.Statement.{statement}
 use Rattle.arith.proofs.solve.search_x.Tie as tie
-use Rattle.arith.proofs.solve.search_x.Reads as reads
-use Rattle.arith.proofs.solve.search_x.Lts as lts
-use Rattle.arith.proofs.operand.least_operand.Reads as least-operand-reads
-use Rattle.arith.proofs.solve.advance.Reads as advance-reads
 
 abbrev Inv-loop : tie.InvT-loop
 Inv-loop format x a b first at₀ at = Frontier format x a b at
@@ -21,19 +18,15 @@ abbrev μ-loop : tie.MeasureT-loop
 further : (c : tie.After-known-told3 Inv-loop μ-loop) → let z = c .before .before .before .before .before .before .before .before .before .args in TurnOf (z .format) (z .x) (z .a) (z .b) (c .before .before .before .before .loop .at) (Next (c .before .y .given .0 .0))
 further c = rw (c .before .y .given .1) at (c .before .before .before .advance .ensures)
 
--- src/solve.rt:57:28
 least-operand-requires : tie.Need-least-operand-requires Inv-loop μ-loop
 least-operand-requires c κs = (c .pre .0, c .pre .2 .high, c .pre .3 .low, c .pre .1)
 
--- src/solve.rt:57:19
 enum-known-first : tie.Need-enum-known-first Inv-loop μ-loop
 enum-known-first c = search needs
 
--- src/solve.rt:58:9
 enum-told : tie.Need-enum-told Inv-loop μ-loop
 enum-told c = search needs
 
--- src/solve.rt:58:9
 returns : tie.Need-returns Inv-loop μ-loop
 returns c =
     let z = c .before .before .before in
@@ -41,7 +34,6 @@ returns c =
     let n : LeastOf (Attains F (z .args .a .high) (z .args .b .low) (z .args .x)) Absent = rw (c .enum-told .given .1) at (c .before .before .least-operand .ensures) in
     frontier-none (F .fraction) (F .exponent) (z .pre .0 .some) (span (z .args .x)) (span (z .args .a)) (span (z .args .b)) n
 
--- src/solve.rt:61:5
 loop-holds : tie.Need-loop-holds Inv-loop μ-loop
 loop-holds c =
     let z = c .before .before .before .before in
@@ -49,35 +41,27 @@ loop-holds c =
     let l : LeastOf (Attains F (z .args .a .high) (z .args .b .low) (z .args .x)) (At (c .before .first .given .0 .0)) = rw (c .before .first .given .1) at (c .before .before .before .least-operand .ensures) in
     frontier-start (F .fraction) (F .exponent) (z .pre .0 .some) (span (z .args .x)) (span (z .args .a)) (span (z .args .b)) _ l
 
--- src/solve.rt:62:15
 advance-requires : tie.Need-advance-requires Inv-loop μ-loop
 advance-requires c κs = let z = c .before .before .before .before .before in (z .pre .0, z .pre .1, z .pre .2, z .pre .3, c .loop .inv)
 
--- src/solve.rt:63:26
 enum-known-c : tie.Need-enum-known-c Inv-loop μ-loop
 enum-known-c c = search needs
 
--- src/solve.rt:63:32
 returns-2 : tie.Need-returns-2 Inv-loop μ-loop
 returns-2 c = rw (c .before .c .given .1) at (c .before .before .before .advance .ensures)
 
--- src/solve.rt:64:28
 enum-told-2 : tie.Need-enum-told-2 Inv-loop μ-loop
 enum-told-2 c = search needs
 
--- src/solve.rt:64:28
 returns-3 : tie.Need-returns-3 Inv-loop μ-loop
 returns-3 c = rw (c .enum-told2 .given .1) at (c .before .before .advance .ensures)
 
--- src/solve.rt:65:24
 enum-known-y : tie.Need-enum-known-y Inv-loop μ-loop
 enum-known-y c = search needs
 
--- src/solve.rt:61:5
 loop-less : tie.Need-loop-less Inv-loop μ-loop
 loop-less c = let h = further c in let i = h .1 .inside in omega arith
 
--- src/solve.rt:61:5
 loop-again : tie.Need-loop-again Inv-loop μ-loop
 loop-again c = further c .1
 
