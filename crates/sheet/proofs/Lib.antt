@@ -14,3 +14,5 @@ pub mod Tidied
 pub mod Numbers
 pub mod Finishing
 pub mod Growing
+pub mod Lists
+pub mod Shared

@@ -7,3 +7,5 @@ pub mod Consistency
 pub mod Outcomes
 pub mod Steps
 pub mod Narrowings
+pub mod Loading
+pub mod Lists

@@ -2,6 +2,7 @@
 pub mod adding;
 pub mod fault;
 pub mod kept;
+pub mod lent;
 pub mod narrowing;
 pub mod passes;
 mod testing;

@@ -1,0 +1,182 @@
+-- Lent lists and the sheet that they make: the same test, the same run, the same answer.
+-- Assumes nothing.
+use mathlib.Core.Path.{_≡_, refl, sym, ap, subst, _∙_}
+use mathlib.Core.Logic.{inl, inr}
+use mathlib.Core.Bool.{Bool, true, false, cond}
+use mathlib.Core.List.{List, [], _∷_, _++_, map, append-nil}
+use Prim.Native.Nat.{ℕ, zero, suc, _+_, _-_, _<_, _≤_, min}
+use native.Mathlib.Nat.{not-suc-le-zero, le-of-suc-le-suc}
+use native.Mathlib.Omega.{arith}
+use lib.Dec.{ltb}
+use lib.ListN.{length, getD, set, take, drop, replicate, length-map, length-replicate}
+use lib.Seq.{take-length, drop-length, take-at}
+use Rattle.ladder.proofs.Cases.{le-or-lt}
+use Rattle.arith.specs.declared.interval.Interval.{Interval}
+use Rattle.arith.specs.declared.refusal.Refusal.{Refusal}
+use Rattle.arith.specs.Formats.{isKnown}
+use Rattle.sheet.specs.declared.kept.Record.{Record}
+use Rattle.sheet.specs.declared.kept.Sheet.{Sheet}
+use Rattle.sheet.specs.declared.kept.Answer.{Answer}
+use Rattle.sheet.specs.declared.kept.Answer.the-variants.{Done, Refused}
+use Rattle.sheet.specs.declared.narrowing.Run.{Run}
+use Rattle.sheet.specs.Faults.{headFault}
+use Rattle.sheet.specs.Sheets.{noCell, noSum, filled, usedCells, usedSums, tidied, testLists, testOf}
+use Rattle.sheet.specs.Boxes.{Box}
+use Rattle.sheet.specs.Runs.{Ended, settled, stopped, noTriple, run}
+use Rattle.sheet.specs.Consistency.{Demand3}
+use Rattle.sheet.specs.Cells.{fractionOf, exponentOf, boxOf, cellsOf}
+use Rattle.sheet.specs.Steps.{places, endOf}
+use Rattle.sheet.specs.Narrowings.{outcomeNumber, ranOn, runAfter, narrowSheetOf, Narrows}
+use Rattle.sheet.specs.Loading.{puts, storedCells, storedCount, sheetOf}
+use Rattle.sheet.specs.Lists.{Lent, endOfLists, lentBy, lentAfter, narrowListsOf, NarrowsLists}
+use Rattle.sheet.proofs.Answers.{test-head, test-many-cells, test-many-sums}
+use Rattle.sheet.proofs.Filling.{length-filled}
+use Rattle.sheet.proofs.Demand.{pass-shrinks, run-all}
+
+-- ---- members put one by one
+module _ {A : Type 0} (d : A) where
+  one-more : (from to : List A) (k : ℕ) → k < length from → k < length to → set (take k from ++ drop k to) k (getD from k d) ≡ take (suc k) from ++ drop (suc k) to
+  one-more [] to k l m = absurd (not-suc-le-zero l)
+  one-more (x ∷ from) [] k l m = absurd (not-suc-le-zero m)
+  one-more (x ∷ from) (y ∷ to) zero l m = refl
+  one-more (x ∷ from) (y ∷ to) (suc k) l m = ap (λ (t : List A). x ∷ t) (one-more from to k (le-of-suc-le-suc l) (le-of-suc-le-suc m))
+
+  pub puts-is : (from : List A) (n : ℕ) (to : List A) → n ≤ length from → n ≤ length to → puts d from n to ≡ take n from ++ drop n to
+  puts-is from zero to l m = refl
+  puts-is from (suc k) to l m = ap (λ (t : List A). set t k (getD from k d)) (puts-is from k to (omega arith) (omega arith)) ∙ one-more from to k l m
+
+  -- a list put in, and read back
+  put-in : (from to : List A) (most : ℕ) → length from ≤ most → length to ≡ most → take (length from) (puts d from (min (length from) most) to) ≡ from
+  put-in from to most l m =
+      let n : min (length from) most ≡ length from = omega arith in
+      rw (n, puts-is from (length from) to (omega arith) (omega arith), take-length from) (take-at from (drop (length from) to) (length from) refl)
+
+-- ---- the run keeps the number of cells
+abbrev Sized : ℕ → Ended → Type 0
+Sized n (settled p box) = length box ≡ n
+Sized n (stopped p box) = length box ≡ n
+Sized n (noTriple p k) = Unit {0}
+
+run-sized : (f e : ℕ) (sums : List Record) (limit : ℕ) (first : Box) → Sized (length first) (run f e sums limit first)
+run-sized f e sums limit first =
+    run-all f e sums (λ (c : Box). length c ≡ length first) (Sized (length first))
+    (λ c d q h. pass-shrinks f e sums 0 c d h .1 ∙ q)
+    (λ p c q h. q)
+    (λ p c q. q)
+    (λ p k c q h. tt)
+    (limit - 1) 1 first refl
+
+-- ---- a head's number
+head-small : (width limit : ℕ) → headFault width limit ≤ 7
+unfolding headFault
+head-small width limit = small (isKnown width) (ltb limit 1) (ltb 65535 limit)
+  where
+    small : (p q r : Bool) → cond p (cond q 7 (cond r 7 0)) 1 ≤ 7
+    small true true r = omega arith
+    small true false true = omega arith
+    small true false false = omega arith
+    small false q r = omega arith
+
+-- ---- the answers
+module _ (width limit : ℕ) (ys : List Interval) (zs : List Record) where
+  abbrev made : Sheet
+  made = sheetOf width limit ys zs
+
+  abbrev tested : Answer
+  tested = testLists width limit (length ys) (length zs) ys zs
+
+  -- what the walk leaves in the cells after a run
+  abbrev kept : Run → List Interval
+  kept r = storedCells ys (storedCount (r .outcome) (min (length ys) 64)) (r .sheet)
+
+  -- a run on the sheet and an answer of the lists say the same
+  record Same (r : Run) (l : Lent) : Type 0 where
+    outcome : r .outcome ≡ l .outcome
+    cells : kept r ≡ l .cells
+    used : usedCells (r .sheet) ≡ l .cells
+
+  -- lists that the sheet has places for
+  module _ (few-cells : length ys ≤ 64) (few-sums : length zs ≤ 128) where
+    used-cells : usedCells made ≡ ys
+    unfolding sheetOf
+    used-cells = put-in noCell ys (replicate 64 noCell) 64 few-cells (length-replicate 64 noCell)
+
+    used-sums : usedSums made ≡ zs
+    unfolding sheetOf
+    used-sums = put-in noSum zs (replicate 128 noSum) 128 few-sums (length-replicate 128 noSum)
+
+    same-test : testOf made ≡ tested
+    unfolding sheetOf
+    same-test = λ i. testLists width limit (length ys) (length zs) (used-cells i) (used-sums i)
+
+    same-end : endOf made ≡ endOfLists width limit ys zs
+    unfolding sheetOf
+    same-end = λ i. endOfLists width limit (used-cells i) (used-sums i)
+
+    -- the cells of a box in the sheet's places
+    used-box : (box : Box) → length box ≡ length ys → take (length ys) (places width (length ys) box) ≡ cellsOf width box
+    used-box box l = take-at (cellsOf width box) (replicate (64 - length ys) noCell) (length ys) (length-map box _ ∙ l)
+
+    kept-box : (box : Box) → length box ≡ length ys → puts noCell (places width (length ys) box) (min (length ys) 64) ys ≡ cellsOf width box
+    kept-box box l =
+        let n : min (length ys) 64 ≡ length ys = omega arith in
+        let m : length (places width (length ys) box) ≡ 64 = length-filled 64 (length ys) noCell (cellsOf width box) (length-map box _ ∙ l) few-cells in
+        rw (n, puts-is noCell (places width (length ys) box) (length ys) ys (omega arith) (omega arith), used-box box l, drop-length ys) (append-nil (cellsOf width box))
+
+    by-end : (E : Ended) → Sized (length ys) E → Same (ranOn made E) (lentBy width ys E)
+    unfolding sheetOf tidied
+    by-end (settled p box) l = record { outcome = refl; cells = kept-box box l; used = used-box box l }
+    by-end (stopped p box) l = record { outcome = refl; cells = kept-box box l; used = used-box box l }
+    by-end (noTriple p k) l = record { outcome = refl; cells = refl; used = used-cells }
+
+    sized : Sized (length ys) (endOf made)
+    sized =
+        subst (λ (n : ℕ). Sized n (endOf made)) (length-map (usedCells made) _ ∙ ap length used-cells)
+        (run-sized (fractionOf (made .width)) (exponentOf (made .width)) (usedSums made) (made .limit) (boxOf (made .width) (usedCells made)))
+
+    by-test : (a : Answer) → Same (runAfter a made) (lentAfter a width limit ys zs)
+    by-test Done = subst (λ (E : Ended). Same (ranOn made (endOf made)) (lentBy width ys E)) same-end (by-end (endOf made) sized)
+    by-test (Refused q) = record { outcome = refl; cells = refl; used = used-cells }
+
+    placed : (r : Run) → Narrows made r → NarrowsLists width limit ys zs (kept r) (r .outcome)
+    unfolding sheetOf narrowSheetOf narrowListsOf
+    placed r h =
+        let e : runAfter tested made ≡ r = sym (h .answer ∙ ap (λ (a : Answer). runAfter a made) same-test) in
+        let same : Same r (narrowListsOf width limit ys zs) = subst (λ (t : Run). Same t (narrowListsOf width limit ys zs)) e (by-test tested) in
+        let last : usedCells (r .sheet) ≡ kept r = same .used ∙ sym (same .cells) in
+        record {
+          outcome = same .outcome;
+          cells = same .cells;
+          demand3 = subst (λ (t : Type 0). t) (λ i. Demand3 (fractionOf width) (exponentOf width) (used-sums i) (boxOf width (used-cells i)) (boxOf width (last i)) (outcomeNumber (r .outcome))) (h .demand3);
+        }
+
+  -- lists that are refused whatever they hold
+  module _ (q : Refusal) (all : (cells : List Interval) (sums : List Record) → Refused q ≡ testLists width limit (length ys) (length zs) cells sums) (some : 1 ≤ q .number) (few : q .number ≤ 10) where
+    refused : (r : Run) → Narrows made r → NarrowsLists width limit ys zs (kept r) (r .outcome)
+    unfolding sheetOf narrowSheetOf narrowListsOf
+    refused r h =
+        let e : r ≡ runAfter (Refused q) made = h .answer ∙ ap (λ (a : Answer). runAfter a made) (sym (all (usedCells made) (usedSums made))) in
+        let l : lentAfter (Refused q) width limit ys zs ≡ narrowListsOf width limit ys zs = ap (λ (a : Answer). lentAfter a width limit ys zs) (all ys zs) in
+        let n : outcomeNumber (r .outcome) ≡ q .number = ap (λ (t : Run). outcomeNumber (t .outcome)) e in
+        record {
+          outcome = ap (λ (t : Run). t .outcome) e ∙ ap (λ (t : Lent). t .outcome) l;
+          cells = ap kept e ∙ ap (λ (t : Lent). t .cells) l;
+          demand3 = record { settled = λ z. absurd (omega (arith, n, z)); stopped = λ z. absurd (omega (arith, n, z)); none = λ z box k. absurd (omega (arith, n, z)) };
+        }
+
+  -- what the walk leaves is what the lists' answer says
+  pub lists-narrow : (r : Run) → Narrows made r → NarrowsLists width limit ys zs (kept r) (r .outcome)
+  lists-narrow r h =
+      elim (le-or-lt 1 (headFault width limit)) [
+        | inl bad ↦ refused (record { number = headFault width limit; place = 0 }) (λ cells sums. test-head width limit (length ys) (length zs) cells sums (λ z. omega (arith, bad, z))) bad (omega (arith, head-small width limit)) r h
+        | inr good ↦
+            let z : headFault width limit ≡ 0 = omega (arith, good) in
+            elim (le-or-lt (length ys) 64) [
+              | inl few-cells ↦
+                  elim (le-or-lt (length zs) 128) [
+                    | inl few-sums ↦ placed few-cells few-sums r h
+                    | inr many ↦ refused (record { number = 10; place = 128 }) (λ cells sums. test-many-sums width limit (length ys) (length zs) cells sums z few-cells many) (omega arith) (omega arith) r h
+                  ]
+              | inr many ↦ refused (record { number = 10; place = 64 }) (λ cells sums. test-many-cells width limit (length ys) (length zs) cells sums z many) (omega arith) (omega arith) r h
+            ]
+      ]

@@ -1,0 +1,21 @@
+-- `lent::count_lists` meets its contract. Assumes nothing.
+use mathlib.Core.Path.{ap}
+use borrow.Author.Needs.{needs}
+use Rattle.sheet.specs.declared.kept.Sheet.{Sheet}
+use Rattle.sheet.specs.Loading.{withCounts}
+use Rattle.sheet.proofs.lent.count_lists.Statement.{statement}
+use Rattle.sheet.proofs.lent.count_lists.Tie as tie
+use Rattle.sheet.proofs.lent.count_lists.Reads as reads
+use Rattle.sheet.proofs.lent.count_lists.Lts as lts
+use Rattle.sheet.proofs.kept.blank_sheet.Reads as blank-sheet-reads
+
+-- src/lent.rt:27:9
+blank-sheet-requires : tie.Need-blank-sheet-requires
+blank-sheet-requires c κs = search needs
+
+-- src/lent.rt:24:1
+returns : tie.Need-returns
+returns c = ap (λ (s : Sheet). withCounts s (c .before .args .cell-count) (c .before .args .sum-count)) (c .blank-sheet .ensures)
+
+pub count-lists-spec : {M : Type 1} → statement M
+count-lists-spec = tie.close (tie.spec blank-sheet-requires returns)

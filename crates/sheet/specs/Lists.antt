@@ -1,0 +1,48 @@
+-- The whole answer of narrowing lent lists, and what it promises. Assumes nothing.
+use mathlib.Core.Path.{_≡_}
+use mathlib.Core.List.{List}
+use Prim.Native.Nat.{ℕ}
+use lib.ListN.{length}
+use Rattle.arith.specs.declared.interval.Interval.{Interval}
+use Rattle.sheet.specs.declared.kept.Record.{Record}
+use Rattle.sheet.specs.declared.kept.Answer.{Answer}
+use Rattle.sheet.specs.declared.kept.Answer.the-variants as Answer
+use Rattle.sheet.specs.declared.passes.Outcome.{Outcome}
+use Rattle.sheet.specs.declared.passes.Outcome.the-variants.{Settled, NoTriple, Stopped, Refused}
+use Rattle.sheet.specs.Sheets.{testLists}
+use Rattle.sheet.specs.Runs.{Ended, settled, stopped, noTriple, run}
+use Rattle.sheet.specs.Consistency.{Demand3}
+use Rattle.sheet.specs.Cells.{fractionOf, exponentOf, boxOf, cellsOf}
+use Rattle.sheet.specs.Narrowings.{outcomeNumber}
+
+-- the outcome of a call, and what the lent cells then hold
+pub record Lent : Type 0 where
+  pub outcome : Outcome
+  pub cells : List Interval
+
+-- the run of the lists, from the cells first given
+abbrev pub endOfLists : ℕ → ℕ → List Interval → List Record → Ended
+endOfLists width limit cells sums = run (fractionOf width) (exponentOf width) sums limit (boxOf width cells)
+
+-- the answer of a run that ended so: its box, each end in its one pattern; under 'no triple' the cells as they were
+abbrev pub lentBy : ℕ → List Interval → Ended → Lent
+lentBy width cells (settled p box) = record { outcome = Settled p; cells = cellsOf width box }
+lentBy width cells (stopped p box) = record { outcome = Stopped p; cells = cellsOf width box }
+lentBy width cells (noTriple p k) = record { outcome = NoTriple p k; cells = cells }
+
+-- the lists' test first, then the run; a refusal leaves the cells as they were
+abbrev pub lentAfter : Answer → ℕ → ℕ → List Interval → List Record → Lent
+lentAfter Answer.Done width limit cells sums = lentBy width cells (endOfLists width limit cells sums)
+lentAfter (Answer.Refused r) width limit cells sums = record { outcome = Refused r; cells = cells }
+
+-- 1; 7; 10 for the cells, then for the sums; 2 and 3 cell by cell; 5 and 6 sum by sum; then the passes
+unfoldable pub narrowListsOf : ℕ → ℕ → List Interval → List Record → Lent
+narrowListsOf width limit cells sums = lentAfter (testLists width limit (length cells) (length sums) cells sums) width limit cells sums
+
+-- what the call promises: the outcome, every lent cell afterwards, and demand 3 on the cells first given
+pub record NarrowsLists (width limit : ℕ) (given : List Interval) (sums : List Record) (after : List Interval) (r : Outcome) : Type 0 where
+  pub outcome : r ≡ narrowListsOf width limit given sums .outcome
+  pub cells : after ≡ narrowListsOf width limit given sums .cells
+  pub demand3 :
+      Demand3 (fractionOf width) (exponentOf width) sums
+      (boxOf width given) (boxOf width after) (outcomeNumber r)

@@ -1,0 +1,65 @@
+-- The walk between lent lists and a sheet: cells and sums put into its places, cells stored back. Assumes nothing.
+use mathlib.Core.List.{List}
+use Prim.Native.Nat.{ℕ, zero, suc, min}
+use lib.ListN.{length, getD, set}
+use Rattle.arith.specs.declared.interval.Interval.{Interval}
+use Rattle.sheet.specs.declared.kept.Record.{Record}
+use Rattle.sheet.specs.declared.kept.Sheet.{Sheet}
+use Rattle.sheet.specs.declared.passes.Outcome.{Outcome}
+use Rattle.sheet.specs.declared.passes.Outcome.the-variants.{Settled, NoTriple, Stopped, Refused}
+use Rattle.sheet.specs.Sheets.{noCell, noSum, blank, withCells}
+
+-- a list with the first n members of another in its first places, put one by one
+abbrev pub puts : {A : Type 0} → A → List A → ℕ → List A → List A
+puts d from zero to = to
+puts d from (suc k) to = set (puts d from k to) k (getD from k d)
+
+-- a sheet with other sums
+abbrev pub withSums : Sheet → List Record → Sheet
+withSums s sums =
+    record {
+      width = s .width;
+      limit = s .limit;
+      «cell_count» = s .«cell_count»;
+      «sum_count» = s .«sum_count»;
+      cells = s .cells;
+      sums = sums;
+    }
+
+-- a sheet with other counts
+abbrev pub withCounts : Sheet → ℕ → ℕ → Sheet
+withCounts s n m =
+    record {
+      width = s .width;
+      limit = s .limit;
+      «cell_count» = n;
+      «sum_count» = m;
+      cells = s .cells;
+      sums = s .sums;
+    }
+
+-- the sheet with the first n cells of a list
+abbrev pub loadedCells : List Interval → ℕ → Sheet → Sheet
+loadedCells cells n s = withCells s (puts noCell cells n (s .cells))
+
+-- the sheet with the first n sums of a list
+abbrev pub loadedSums : List Record → ℕ → Sheet → Sheet
+loadedSums sums n s = withSums s (puts noSum sums n (s .sums))
+
+-- the list with the first n cells of a sheet
+abbrev pub storedCells : List Interval → ℕ → Sheet → List Interval
+storedCells cells n s = puts noCell (s .cells) n cells
+
+-- how many of n cells are stored back: all where the run settled or stopped, else none
+abbrev pub storedCount : Outcome → ℕ → ℕ
+storedCount (Settled passes) n = n
+storedCount (NoTriple pass sum) n = 0
+storedCount (Stopped passes) n = n
+storedCount (Refused r) n = 0
+
+-- the sheet that two lists make: their lengths as its counts, and as many cells and sums as it has places for
+unfoldable pub sheetOf : ℕ → ℕ → List Interval → List Record → Sheet
+sheetOf width limit cells sums =
+    loadedSums sums (min (length sums) 128)
+    (loadedCells cells (min (length cells) 64)
+    (withCounts (blank width limit) (length cells) (length sums)))

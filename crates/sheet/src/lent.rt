@@ -1,0 +1,131 @@
+// Lent lists: the host's cells, narrowed in place, and its sums. A walk between the lists and the sheet by value, which does the work.
+ghost use mathlib.Core.Path.{_≡_};
+ghost use Prim.Native.Nat.{_<_, _≤_, min};
+ghost use lib.ListN.{length, getD, set};
+ghost use Rattle.sheet.specs.Sheets.{noCell, blank, withCells};
+ghost use Rattle.sheet.specs.Loading.{withSums, withCounts, loadedCells, loadedSums, storedCells, storedCount};
+ghost use Rattle.sheet.specs.Lists.{NarrowsLists};
+use crate::kept::Record;
+use crate::kept::Sheet;
+use crate::kept::blank_sheet;
+use crate::narrowing::narrow_sheet;
+use crate::passes::Outcome;
+use arith::interval::Interval;
+
+// The lesser of two numbers.
+fn least(n: usize, most: usize) -> usize
+    ensures { λ r. ⌜ r ≡ min n most ⌝ }
+{
+    if n < most {
+        return n;
+    }
+    most
+}
+
+// An empty sheet with the lengths of the lists as its counts.
+fn count_lists(width: u64, limit: u64, cell_count: usize, sum_count: usize) -> Sheet
+    ensures { λ r. ⌜ r ≡ withCounts (blank width limit) «cell_count» «sum_count» ⌝ }
+{
+    let mut sheet = blank_sheet(width, limit);
+    sheet.cell_count = cell_count as u64;
+    sheet.sum_count = sum_count as u64;
+    sheet
+}
+
+// One cell is put into the sheet.
+fn put_cell(sheet: Sheet, i: usize, cell: Interval) -> Sheet
+    requires { ⌜ i < 64 ⌝ }
+    ensures { λ r. ⌜ r ≡ withCells sheet (set (sheet .cells) i cell) ⌝ }
+{
+    let mut next = sheet;
+    next.cells[i] = cell;
+    next
+}
+
+// One sum is put into the sheet.
+fn put_sum(sheet: Sheet, i: usize, sum: Record) -> Sheet
+    requires { ⌜ i < 128 ⌝ }
+    ensures { λ r. ⌜ r ≡ withSums sheet (set (sheet .sums) i sum) ⌝ }
+{
+    let mut next = sheet;
+    next.sums[i] = sum;
+    next
+}
+
+// One cell of the sheet.
+fn get_cell(sheet: Sheet, i: usize) -> Interval
+    requires { ⌜ i < 64 ⌝ }
+    ensures { λ r. ⌜ r ≡ getD (sheet .cells) i noCell ⌝ }
+{
+    sheet.cells[i]
+}
+
+// How many cells an outcome stores back.
+fn stored_count(outcome: Outcome, n: usize) -> usize
+    ensures { λ r. ⌜ r ≡ storedCount outcome n ⌝ }
+{
+    match outcome {
+        Outcome::Settled { .. } => n,
+        Outcome::NoTriple { .. } => 0,
+        Outcome::Stopped { .. } => n,
+        Outcome::Refused(_) => 0,
+    }
+}
+
+// The sheet with the first n cells of the list.
+fn load_cells(cells: &[Interval], n: usize, sheet: Sheet) -> Sheet
+    requires { ⌜ (n ≤ length (now cells)) × (n ≤ 64) ⌝ }
+    ensures { λ r. ⌜ r ≡ loadedCells (now (cells .entry)) n sheet ⌝ }
+{
+    let mut next = sheet;
+    let mut i: usize = 0;
+    while i < n {
+        next = put_cell(next, i, cells[i]);
+        i += 1;
+    }
+    next
+}
+
+// The sheet with the first n sums of the list.
+fn load_sums(sums: &[Record], n: usize, sheet: Sheet) -> Sheet
+    requires { ⌜ (n ≤ length (now sums)) × (n ≤ 128) ⌝ }
+    ensures { λ r. ⌜ r ≡ loadedSums (now (sums .entry)) n sheet ⌝ }
+{
+    let mut next = sheet;
+    let mut i: usize = 0;
+    while i < n {
+        next = put_sum(next, i, sums[i]);
+        i += 1;
+    }
+    next
+}
+
+// The list with the first n cells of the sheet.
+fn store_cells(cells: &mut [Interval], n: usize, sheet: Sheet)
+    requires { ⌜ (n ≤ length (now cells)) × (n ≤ 64) ⌝ }
+    ensures { λ _. ⌜ now (cells .exit) ≡ storedCells (now (cells .entry)) n sheet ⌝ }
+{
+    let mut i: usize = 0;
+    while i < n {
+        cells[i] = get_cell(sheet, i);
+        i += 1;
+    }
+}
+
+// Narrows the cells of a list by the sums of a second list until a pass moves no end. Refusals in the order of lists; every one but 12 leaves the cells as they were.
+pub fn narrow_lists(width: u64, limit: u64, cells: &mut [Interval], sums: &[Record]) -> Outcome
+    ensures { λ r. ⌜ NarrowsLists width limit (now (cells .entry)) (now (sums .entry)) (now (cells .exit)) r ⌝ }
+{
+    let cell_count = cells.len();
+    let sum_count = sums.len();
+    let blank = count_lists(width, limit, cell_count, sum_count);
+    let cells_held = least(cell_count, 64);
+    let sums_held = least(sum_count, 128);
+    let with_cells = load_cells(cells, cells_held, blank);
+    let full = load_sums(sums, sums_held, with_cells);
+    let run = narrow_sheet(full);
+    let outcome = run.outcome;
+    let back = stored_count(outcome, cells_held);
+    store_cells(cells, back, run.sheet);
+    outcome
+}
