@@ -44,6 +44,7 @@ abbrev pub runAfter : Answer → Sheet → Run
 runAfter Answer.Done s = ranOn s (endOf s)
 runAfter (Answer.Refused r) s = record { sheet = s; outcome = Refused r }
 
+-- narrowing a kept sheet
 unfoldable pub narrowSheetOf : Sheet → Run
 narrowSheetOf s = runAfter (testOf s) s
 

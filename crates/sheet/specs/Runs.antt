@@ -19,6 +19,7 @@ pub data Step : Type 0 where
 abbrev pub put : Box → Record → Interval → Interval → Interval → Box
 put box r X A B = set (set (set box (r .x) X) (r .a) A) (r .b) B
 
+-- what the sum's narrowing makes of the box
 abbrev pub stepBy : Box → Record → Narrowing → Step
 stepBy box r none = unsolved
 stepBy box r (ends X A B) = left (put box r X A B)
@@ -33,6 +34,7 @@ pub data Pass : Type 0 where
   broken : ℕ → Pass
   whole : Box → Pass
 
+-- after a step of sum k: break off, or go on with the box it leaves
 abbrev pub passBy : Step → (Box → Pass) → ℕ → Pass
 passBy unsolved next k = broken k
 passBy (left box) next k = next box
@@ -42,6 +44,7 @@ unfoldable pub passFrom : ℕ → ℕ → List Record → ℕ → Box → Pass
 passFrom f e [] k box = whole box
 passFrom f e (r ∷ rs) k box = passBy (step f e box r) (passFrom f e rs (k + 1)) k
 
+-- a whole pass, from sum 0 on
 abbrev pub pass : ℕ → ℕ → List Record → Box → Pass
 pass f e sums box = passFrom f e sums 0 box
 

@@ -14,10 +14,11 @@ use Rattle.sheet.specs.Cells.{canonicalCell}
 use Rattle.sheet.specs.Faults.{headFault, cellFault, sumFault}
 
 -- ---- places
--- what an unused place holds
+-- what an unused place of a cell holds
 abbrev pub noCell : Interval
 noCell = record { low = 0; high = 0 }
 
+-- and of a sum
 abbrev pub noSum : Record
 noSum = record { x = 0; a = 0; b = 0 }
 
@@ -37,10 +38,11 @@ blank width limit =
       sums = replicate 128 noSum;
     }
 
--- the cells and the sums in use
+-- the cells in use
 abbrev pub usedCells : Sheet → List Interval
 usedCells s = take (s .«cell_count») (s .cells)
 
+-- the sums in use
 abbrev pub usedSums : Sheet → List Record
 usedSums s = take (s .«sum_count») (s .sums)
 
@@ -69,11 +71,12 @@ withCells s cells =
     }
 
 -- ---- answers
--- 01's number and place of each case; 0 where nothing is refused
+-- 01's number of each case: 0 where nothing is refused
 abbrev pub answerNumber : Answer → ℕ
 answerNumber Done = 0
 answerNumber (Refused r) = r .number
 
+-- and its place
 abbrev pub answerPlace : Answer → ℕ
 answerPlace Done = 0
 answerPlace (Refused r) = r .place
@@ -100,7 +103,8 @@ abbrev pub keptBy : Answer → Sheet → Sheet → Kept
 keptBy Done old new = record { sheet = new; answer = Done }
 keptBy (Refused r) old new = record { sheet = old; answer = Refused r }
 
--- ---- opening: 1, 7
+-- ---- opening
+-- 1, 7; a refusal gives the sheet that is zero throughout
 unfoldable pub openOf : ℕ → ℕ → Kept
 openOf width limit = keptBy (faultAt (headFault width limit) 0) (blank 0 0) (blank width limit)
 
@@ -119,13 +123,16 @@ testLists width limit cellCount sumCount cells sums =
     (andThen (firstFault (cellFault width) 0 cells)
     (firstFault (sumFault cellCount) 0 sums))))
 
+-- the test of a kept sheet
 abbrev pub testOf : Sheet → Answer
 testOf s = testLists (s .width) (s .limit) (s .«cell_count») (s .«sum_count») (usedCells s) (usedSums s)
 
--- ---- adding: the sheet's own test, then 2, 3, 10 or 5, 6, 10, at place 0
+-- ---- adding
+-- the sheet's own test, then the fault's number, then 10 where there is no room; place 0 for what is being added
 abbrev pub addTest : Answer → ℕ → Bool → Answer
 addTest tested fault room = andThen tested (andThen (faultAt fault 0) (require room 10 0))
 
+-- the sheet with a cell more
 abbrev pub withCell : Sheet → Interval → Sheet
 withCell s cell =
     record {
@@ -137,6 +144,7 @@ withCell s cell =
       sums = s .sums;
     }
 
+-- the sheet with a sum more
 abbrev pub withSum : Sheet → Record → Sheet
 withSum s sum =
     record {
@@ -148,12 +156,14 @@ withSum s sum =
       sums = set (s .sums) (s .«sum_count») sum;
     }
 
+-- adding a cell: 2, 3, 10
 unfoldable pub addCellOf : Sheet → Interval → Kept
 addCellOf s cell =
     keptBy (addTest (testOf s) (cellFault (s .width) cell) (ltb (s .«cell_count») 64))
     s
     (withCell (tidied s) (canonicalCell (s .width) cell))
 
+-- adding a sum: 5, 6, 10
 unfoldable pub addSumOf : Sheet → Record → Kept
 addSumOf s sum =
     keptBy (addTest (testOf s) (sumFault (s .«cell_count») sum) (ltb (s .«sum_count») 128))

@@ -44,6 +44,7 @@ pub record Reachable (r : Record) : Type 0 where
   pub a : r .a < 64
   pub b : r .b < 64
 
+-- by the answer of narrowing it
 abbrev pub steppedBy : List Interval → Record → Narrowed → Stepped
 steppedBy cells r (Ends X A B) = record { solved = true; cells = set (set (set cells (r .x) X) (r .a) A) (r .b) B }
 steppedBy cells r (Refused q) = record { solved = false; cells = cells }
