@@ -1,0 +1,76 @@
+//! The narrowing of one sum x + a = b for Rust programs, over the static library `libarith.a` and its C entry.
+//!
+//! Safe: every range of `f32` or `f64` gets an answer. Build the library with `rt staticlib arith`, add this file as a module
+//! and link with `-l static=arith`.
+
+use std::ops::RangeInclusive;
+
+unsafe extern "C" {
+    fn tazsmibor_narrow(
+        width: u64,
+        x_low: u64,
+        x_high: u64,
+        a_low: u64,
+        a_high: u64,
+        b_low: u64,
+        b_high: u64,
+        result: *mut u8,
+        length: usize,
+    ) -> u64;
+}
+
+/// What the narrowing of three ranges answers.
+#[derive(Clone, Debug, PartialEq)]
+pub enum Narrowing<F> {
+    /// From the least to the greatest x, a and b with x + a = b, the sum rounded to nearest even.
+    Ends { x: RangeInclusive<F>, a: RangeInclusive<F>, b: RangeInclusive<F> },
+    /// No x, a and b of the ranges have x + a = b.
+    NoSolution,
+    /// An end is an infinity or a NaN.
+    NotFinite,
+    /// A low end lies above its high end.
+    OutOfOrder,
+}
+
+/// `f32` and `f64`, by their patterns.
+pub trait Float: Copy {
+    const WIDTH: u64;
+    fn pattern(self) -> u64;
+    fn float(pattern: u64) -> Self;
+}
+
+impl Float for f32 {
+    const WIDTH: u64 = 32;
+    fn pattern(self) -> u64 {
+        self.to_bits().into()
+    }
+    fn float(pattern: u64) -> f32 {
+        f32::from_bits(pattern as u32)
+    }
+}
+
+impl Float for f64 {
+    const WIDTH: u64 = 64;
+    fn pattern(self) -> u64 {
+        self.to_bits()
+    }
+    fn float(pattern: u64) -> f64 {
+        f64::from_bits(pattern)
+    }
+}
+
+/// Cuts three ranges down to the values that stand in some x + a = b.
+pub fn narrow<F: Float>(x: RangeInclusive<F>, a: RangeInclusive<F>, b: RangeInclusive<F>) -> Narrowing<F> {
+    let mut result = [0u8; 48];
+    let [[xl, xh], [al, ah], [bl, bh]] = [x, a, b].map(|r| [r.start().pattern(), r.end().pattern()]);
+    // The pointer and the length are those of an array on this stack, which nothing else refers to.
+    let answer = unsafe { tazsmibor_narrow(F::WIDTH, xl, xh, al, ah, bl, bh, result.as_mut_ptr(), result.len()) };
+    let end = |i: usize| F::float(u64::from_le_bytes(result[8 * i..8 * i + 8].try_into().expect("8 bytes")));
+    match answer {
+        0 => Narrowing::Ends { x: end(0)..=end(1), a: end(2)..=end(3), b: end(4)..=end(5) },
+        11 => Narrowing::NoSolution,
+        2 => Narrowing::NotFinite,
+        3 => Narrowing::OutOfOrder,
+        other => unreachable!("the width is known and there are 48 bytes: {other}"),
+    }
+}
