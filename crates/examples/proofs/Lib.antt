@@ -1,3 +1,4 @@
 pub mod Starred
 pub mod Bounding
 pub mod Narrowings
+pub mod Sheets

@@ -36,7 +36,7 @@ neg m = 2 ^ 63 - m
 abbrev all : Interval
 all = span (neg 0x7FEFFFFFFFFFFFFF) (pos 0x7FEFFFFFFFFFFFFF)
 
-abbrev one : Interval
+abbrev pub one : Interval
 one = span (pos 0x3FF0000000000000) (pos 0x3FF0000000000000)
 
 absorbed : Hull 52 11 all one one (span (neg 0x3C90000000000000) (pos 0x3CA0000000000000)) one one
@@ -88,19 +88,19 @@ even x a b s =
     omega arith
 
 -- ---- document 000's example
-abbrev dX : Interval
+abbrev pub dX : Interval
 dX = span (neg 0x4630000000000000) (neg 0x4330000000000000)
 
-abbrev dA : Interval
+abbrev pub dA : Interval
 dA = span (pos 0x3FF0000000000000) (pos 0x4630000000000000)
 
-abbrev dB : Interval
+abbrev pub dB : Interval
 dB = span (pos 0x3FE0000000000000) (pos 0x3FF8000000000000)
 
-abbrev dX' : Interval
+abbrev pub dX' : Interval
 dX' = span (neg 0x433FFFFFFFFFFFFF) (neg 0x4330000000000000)
 
-abbrev dA' : Interval
+abbrev pub dA' : Interval
 dA' = span (pos 0x4330000000000001) (pos 0x4340000000000000)
 
 document-low : Solution 52 11 dX dA dB (dX' .low) (dA' .high) (one .low)
@@ -148,7 +148,8 @@ module _ (x a b : ℕ) (s : Solution 52 11 dX dA dB x a b) where
         | inr l ↦ absurd (digits-free 52 1022 0x3FE0000000000000 0x3FEFFFFFFFFFFFFF (lit< tt) (lit< tt) (b - 2 ^ 63) (omega arith) (omega arith) d)
       ]
 
-document : Hull 52 11 dX dA dB dX' dA' one
+-- document 000's example
+pub document : Hull 52 11 dX dA dB dX' dA' one
 document = corners-hull 52 11 (lit≤ tt) dX dA dB dX' dA' one (record {
   x-low = record { a = _; b = _; solution = document-low };
   x-high = record { a = _; b = _; solution = document-high };

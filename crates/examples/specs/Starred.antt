@@ -1,6 +1,8 @@
 -- The table of 01's starred examples, each as an equation of the definitions. Assumes nothing.
 use mathlib.Core.Path.{_≡_}
+use mathlib.Core.List.{List, [], _∷_}
 use Prim.Native.Nat.{ℕ}
+use lib.ListN.{length}
 use Rattle.arith.specs.declared.sum.Sum.the-variants.{Is, Refused}
 use Rattle.arith.specs.declared.interval.Interval.{Interval}
 use Rattle.arith.specs.declared.narrow.Narrowed.the-variants.{Ends}
@@ -8,6 +10,11 @@ use Rattle.arith.specs.declared.narrow.Narrowed.the-variants as Narrowed
 use Rattle.arith.specs.Refusals.{refusal}
 use Rattle.arith.specs.Sums.{addOf}
 use Rattle.arith.specs.Narrows.{narrowOf}
+use Rattle.sheet.specs.declared.kept.Record.{Record}
+use Rattle.sheet.specs.declared.kept.Sheet.{Sheet}
+use Rattle.sheet.specs.declared.passes.Outcome.the-variants.{Settled, NoTriple, Stopped}
+use Rattle.sheet.specs.Sheets.{noCell, noSum, filled}
+use Rattle.sheet.specs.Narrowings.{narrowSheetOf}
 
 -- ---- sums
 pub record Sums : Type 0 where
@@ -63,3 +70,43 @@ pub record Narrowings : Type 0 where
   -- document 000's example
   pub document-000 : narrowOf 64 (interval 0xC630000000000000 0xC330000000000000) (interval 0x3FF0000000000000 0x4630000000000000) (interval 0x3FE0000000000000 0x3FF8000000000000)
       ≡ Ends (interval 0xC33FFFFFFFFFFFFF 0xC330000000000000) (interval 0x4330000000000001 0x4340000000000000) one64
+
+-- ---- sheets
+-- a sheet of width 64 with these cells and sums
+abbrev pub sheet : ℕ → List Interval → List Record → Sheet
+sheet limit cells sums =
+    record {
+      width = 64;
+      limit = limit;
+      «cell_count» = length cells;
+      «sum_count» = length sums;
+      cells = filled 64 noCell cells (length cells);
+      sums = filled 128 noSum sums (length sums);
+    }
+
+-- a sum over cells
+abbrev pub over : ℕ → ℕ → ℕ → Record
+over x a b = record { x = x; a = a; b = b }
+
+-- document 000's sheet
+abbrev pub sheet000 : List Interval → Sheet
+sheet000 cells = sheet 10 cells (over 0 1 2 ∷ [])
+
+-- two sums, each of which moves the other's cells
+abbrev pub chase : ℕ → List Interval → Sheet
+chase limit cells = sheet limit cells (over 0 1 2 ∷ over 2 3 0 ∷ [])
+
+-- its cells: 0 and 2 from place 0 to place 10, 1 at place 1, 3 at place 0
+abbrev pub chased : List Interval
+chased = interval 0 10 ∷ point 1 ∷ interval 0 10 ∷ point 0 ∷ []
+
+-- 01's sheets
+pub record Sheets : Type 0 where
+  -- document 000's example, settled by its second pass
+  pub settles :
+      narrowSheetOf (sheet000 (interval 0xC630000000000000 0xC330000000000000 ∷ interval 0x3FF0000000000000 0x4630000000000000 ∷ interval 0x3FE0000000000000 0x3FF8000000000000 ∷ []))
+      ≡ record { sheet = sheet000 (interval 0xC33FFFFFFFFFFFFF 0xC330000000000000 ∷ interval 0x4330000000000001 0x4340000000000000 ∷ one64 ∷ []); outcome = Settled 2 }
+  -- one float a pass: five passes meet in the middle
+  pub stops : narrowSheetOf (chase 5 chased) ≡ record { sheet = chase 5 (point 5 ∷ point 1 ∷ point 5 ∷ point 0 ∷ []); outcome = Stopped 5 }
+  -- and the sixth finds no triple
+  pub breaks : narrowSheetOf (chase 6 chased) ≡ record { sheet = chase 6 chased; outcome = NoTriple 6 0 }
