@@ -1,0 +1,63 @@
+-- `cases::make_cells` is safe and ends with its count. Assumes nothing.
+use Prim.Native.Nat.{_≤_, _-_}
+use native.Mathlib.Omega.{arith}
+use borrow.Author.Needs.{needs}
+use Rattle.lent_readings.proofs.cases.make_cells.Statement.{statement}
+use Rattle.lent_readings.proofs.cases.make_cells.Tie as tie
+
+abbrev Inv-loop : tie.InvT-loop
+Inv-loop width calm seed lent₀ kept₀ w₀ i₀ lent kept w i = i ≤ 66
+
+abbrev μ-loop : tie.MeasureT-loop
+μ-loop width calm seed lent₀ kept₀ w₀ i₀ lent kept w i = 66 - i
+
+loop-holds : tie.Need-loop-holds Inv-loop μ-loop
+loop-holds c = omega arith
+
+next-word-requires : tie.Need-next-word-requires Inv-loop μ-loop
+next-word-requires c κs = search needs
+
+cell-of-requires : tie.Need-cell-of-requires Inv-loop μ-loop
+cell-of-requires c κs = search needs
+
+mul-lent : tie.Need-mul-lent Inv-loop μ-loop
+mul-lent c = search needs
+
+array-set-from-lent : tie.Need-array-set-from-lent Inv-loop μ-loop
+array-set-from-lent c = search needs
+
+mul-kept : tie.Need-mul-kept Inv-loop μ-loop
+mul-kept c = search needs
+
+array-set-from-kept : tie.Need-array-set-from-kept Inv-loop μ-loop
+array-set-from-kept c = search needs
+
+add-i : tie.Need-add-i Inv-loop μ-loop
+add-i c = omega arith
+
+loop-less : tie.Need-loop-less Inv-loop μ-loop
+loop-less c = omega arith
+
+loop-again : tie.Need-loop-again Inv-loop μ-loop
+loop-again c = omega arith
+
+returns : tie.Need-returns Inv-loop μ-loop
+returns c = search needs
+
+pub make-cells-spec : {M : Type 1} → statement M
+make-cells-spec =
+    tie.close
+    (tie.spec
+    Inv-loop
+    μ-loop
+    loop-holds
+    next-word-requires
+    cell-of-requires
+    mul-lent
+    array-set-from-lent
+    mul-kept
+    array-set-from-kept
+    add-i
+    loop-less
+    loop-again
+    returns)

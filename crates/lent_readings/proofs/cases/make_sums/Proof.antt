@@ -1,0 +1,63 @@
+-- `cases::make_sums` is safe and ends with its count. Assumes nothing.
+use Prim.Native.Nat.{_≤_, _-_}
+use native.Mathlib.Omega.{arith}
+use borrow.Author.Needs.{needs}
+use Rattle.lent_readings.proofs.cases.make_sums.Statement.{statement}
+use Rattle.lent_readings.proofs.cases.make_sums.Tie as tie
+
+abbrev Inv-loop : tie.InvT-loop
+Inv-loop n calm seed lent₀ kept₀ w₀ k₀ lent kept w k = k ≤ 130
+
+abbrev μ-loop : tie.MeasureT-loop
+μ-loop n calm seed lent₀ kept₀ w₀ k₀ lent kept w k = 130 - k
+
+loop-holds : tie.Need-loop-holds Inv-loop μ-loop
+loop-holds c = omega arith
+
+next-word-requires : tie.Need-next-word-requires Inv-loop μ-loop
+next-word-requires c κs = search needs
+
+sum-of-requires : tie.Need-sum-of-requires Inv-loop μ-loop
+sum-of-requires c κs = search needs
+
+mul-lent : tie.Need-mul-lent Inv-loop μ-loop
+mul-lent c = search needs
+
+array-set-from-lent : tie.Need-array-set-from-lent Inv-loop μ-loop
+array-set-from-lent c = search needs
+
+mul-kept : tie.Need-mul-kept Inv-loop μ-loop
+mul-kept c = search needs
+
+array-set-from-kept : tie.Need-array-set-from-kept Inv-loop μ-loop
+array-set-from-kept c = search needs
+
+add-k : tie.Need-add-k Inv-loop μ-loop
+add-k c = omega arith
+
+loop-less : tie.Need-loop-less Inv-loop μ-loop
+loop-less c = omega arith
+
+loop-again : tie.Need-loop-again Inv-loop μ-loop
+loop-again c = omega arith
+
+returns : tie.Need-returns Inv-loop μ-loop
+returns c = search needs
+
+pub make-sums-spec : {M : Type 1} → statement M
+make-sums-spec =
+    tie.close
+    (tie.spec
+    Inv-loop
+    μ-loop
+    loop-holds
+    next-word-requires
+    sum-of-requires
+    mul-lent
+    array-set-from-lent
+    mul-kept
+    array-set-from-kept
+    add-k
+    loop-less
+    loop-again
+    returns)

@@ -1,0 +1,67 @@
+-- `compare::same_cells` is safe and ends with its count. Assumes nothing.
+use Prim.Native.Nat.{_≤_, _-_}
+use native.Mathlib.Omega.{arith}
+use borrow.Author.Needs.{needs}
+use Rattle.lent_readings.proofs.compare.same_cells.Statement.{statement}
+use Rattle.lent_readings.proofs.compare.same_cells.Tie as tie
+
+abbrev Inv-loop : tie.InvT-loop
+Inv-loop stored n kept after given i₀ i = i ≤ 66
+
+abbrev μ-loop : tie.MeasureT-loop
+μ-loop stored n kept after given i₀ i = 66 - i
+
+loop-holds : tie.Need-loop-holds Inv-loop μ-loop
+loop-holds c = omega arith
+
+mul-same : tie.Need-mul-same Inv-loop μ-loop
+mul-same c = search needs
+
+array-copy-out-same : tie.Need-array-copy-out-same Inv-loop μ-loop
+array-copy-out-same c = search needs
+
+mul-expected : tie.Need-mul-expected Inv-loop μ-loop
+mul-expected c = search needs
+
+array-copy-out-expected : tie.Need-array-copy-out-expected Inv-loop μ-loop
+array-copy-out-expected c = search needs
+
+expected-requires : tie.Need-expected-requires Inv-loop μ-loop
+expected-requires c κs = search needs
+
+same-requires : tie.Need-same-requires Inv-loop μ-loop
+same-requires c κs = search needs
+
+returns : tie.Need-returns Inv-loop μ-loop
+returns c = search needs
+
+add-i : tie.Need-add-i Inv-loop μ-loop
+add-i c = omega arith
+
+loop-less : tie.Need-loop-less Inv-loop μ-loop
+loop-less c = omega arith
+
+loop-again : tie.Need-loop-again Inv-loop μ-loop
+loop-again c = omega arith
+
+returns-2 : tie.Need-returns-2 Inv-loop μ-loop
+returns-2 c = search needs
+
+pub same-cells-spec : {M : Type 1} → statement M
+same-cells-spec =
+    tie.close
+    (tie.spec
+    Inv-loop
+    μ-loop
+    loop-holds
+    mul-same
+    array-copy-out-same
+    mul-expected
+    array-copy-out-expected
+    expected-requires
+    same-requires
+    returns
+    add-i
+    loop-less
+    loop-again
+    returns-2)

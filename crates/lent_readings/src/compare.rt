@@ -1,0 +1,188 @@
+// Each case once with lent lists and once with a kept sheet, and whether the two agree.
+ghost use Prim.Native.Nat.{_≤_};
+use crate::cases::CELLS;
+use crate::cases::Cells;
+use crate::cases::Sums;
+use crate::cases::make_cells;
+use crate::cases::make_sums;
+use crate::cases::next_word;
+use crate::lending::lend;
+use crate::tally::Tally;
+use crate::tally::count_outcome;
+use crate::tally::count_verdict;
+use crate::tally::nothing_yet;
+use crate::tally::put_tally;
+use arith::interval::Interval;
+use sheet::kept::Sheet;
+use sheet::narrowing::narrow_sheet;
+use sheet::passes::Outcome;
+
+// How many cases are compared.
+const CASES: u64 = 670;
+
+// An outcome as numbers: which case, and its values.
+struct Reply {
+    kind: u64,
+    first: u64,
+    second: u64,
+}
+
+fn reply_of(outcome: Outcome) -> Reply {
+    match outcome {
+        Outcome::Settled { passes } => Reply {
+            kind: 0,
+            first: passes,
+            second: 0,
+        },
+        Outcome::NoTriple { pass, sum } => Reply {
+            kind: 11,
+            first: pass,
+            second: sum,
+        },
+        Outcome::Stopped { passes } => Reply {
+            kind: 12,
+            first: passes,
+            second: 0,
+        },
+        Outcome::Refused(r) => Reply {
+            kind: 13,
+            first: r.number,
+            second: r.place,
+        },
+    }
+}
+
+fn equal(r: Reply, s: Reply) -> bool {
+    if r.kind != s.kind {
+        return false;
+    }
+    if r.first != s.first {
+        return false;
+    }
+    r.second == s.second
+}
+
+// Whether a run that ended so has stored its box.
+fn stores(outcome: Outcome) -> bool {
+    match outcome {
+        Outcome::Settled { .. } => true,
+        Outcome::NoTriple { .. } => false,
+        Outcome::Stopped { .. } => true,
+        Outcome::Refused(_) => false,
+    }
+}
+
+// What cell i of the array should be: the kept sheet's where it is lent and stored, else the given one.
+fn expected(stored: bool, n: usize, i: usize, given: Interval, kept: [Interval; 64]) -> Interval {
+    if !stored {
+        return given;
+    }
+    if n <= i {
+        return given;
+    }
+    if 64 <= i {
+        return given;
+    }
+    kept[i]
+}
+
+fn same(p: Interval, q: Interval) -> bool {
+    if p.low != q.low {
+        return false;
+    }
+    p.high == q.high
+}
+
+// Whether every cell of the array is as it should be.
+fn same_cells(
+    stored: bool,
+    n: usize,
+    after: [Interval; 66],
+    given: [Interval; 66],
+    kept: [Interval; 64],
+) -> bool {
+    for i in 0..CELLS {
+        if !same(after[i], expected(stored, n, i, given[i], kept)) {
+            return false;
+        }
+    }
+    true
+}
+
+// One case, counted.
+fn compare_case(
+    tally: Tally,
+    width: u64,
+    limit: u64,
+    cells: Cells,
+    n: usize,
+    sums: Sums,
+    m: usize,
+) -> Tally
+    requires { ⌜ (n ≤ 66) × (m ≤ 130) ⌝ }
+{
+    let given = cells.lent;
+    let kept_cells = cells.kept;
+    let named = sums.lent;
+    let kept_sums = sums.kept;
+    let left = lend(width, limit, given, n, named, m);
+    let run = narrow_sheet(Sheet {
+        width,
+        limit,
+        cell_count: n as u64,
+        sum_count: m as u64,
+        cells: kept_cells,
+        sums: kept_sums,
+    });
+    let outcome = run.outcome;
+    let lent_outcome = left.outcome;
+    let narrowed = run.sheet;
+    let after = left.cells;
+    let kept_after = narrowed.cells;
+    let mut agrees = equal(reply_of(lent_outcome), reply_of(outcome));
+    if !same_cells(stores(outcome), n, after, given, kept_after) {
+        agrees = false;
+    }
+    count_verdict(count_outcome(tally, lent_outcome), agrees)
+}
+
+// Case c: every length of cells in turn; widths, limits, sums and faults by the word w.
+fn next_case(tally: Tally, c: u64, w: u64) -> Tally {
+    let width = match w % 32 {
+        0 => 16,
+        1..=15 => 32,
+        _ => 64,
+    };
+    let limit = match (w >> 5) % 64 {
+        0 => 0,
+        1 => 65536,
+        2..=30 => 1,
+        _ => 12,
+    };
+    let calm = (w >> 11) % 2 == 0;
+    let n = c % 67;
+    let few = (w >> 12) % 8 != 0;
+    let v = w >> 15;
+    let m = if few { v % 5 } else { v };
+    let cells = make_cells(width, calm, w);
+    let sums = make_sums(n, calm, next_word(w));
+    compare_case(
+        tally,
+        width,
+        limit,
+        cells,
+        n as usize,
+        sums,
+        (m % 131) as usize,
+    )
+}
+
+pub(crate) fn compare_lists() {
+    let mut tally = nothing_yet();
+    let mut w: u64 = 88172645463325252;
+    for c in 0..CASES {
+        w = next_word(w);
+        tally = next_case(tally, c, w);
+    }
+    put_tally(tally);
+}
