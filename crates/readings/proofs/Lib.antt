@@ -1,2 +1,2 @@
 -- The laws that the functions' proofs cite.
-pub mod Floats
+pub mod Nan

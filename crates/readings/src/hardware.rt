@@ -25,7 +25,7 @@ fn float32(p: u32) -> f32 {
 }
 
 // A float's pattern, and a NaN's for a NaN.
-fn bits64(b: f64) -> u64 {
+pub(crate) fn bits64(b: f64) -> u64 {
     if b == b {
         return f64::to_bits(b);
     }

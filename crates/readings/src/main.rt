@@ -1,10 +1,12 @@
 // Test program: 01's readings, a line each, and many forward sums beside the hardware's addition. What it writes is held to the file `stdout`.
 mod compare;
+mod floats;
 mod hardware;
 mod intervals;
 mod narrowings;
 mod operands;
 mod print;
+mod sheets;
 mod sums;
 mod traps;
 
@@ -13,6 +15,8 @@ fn main() {
     intervals::read_intervals();
     narrowings::read_narrowings();
     traps::read_traps();
+    floats::read_floats();
+    sheets::read_sheets();
     compare::compare_width(32);
     compare::compare_width(64);
 }

@@ -49,7 +49,7 @@ fn reply_of(answer: Narrowed) -> Reply {
     }
 }
 
-fn equal_intervals(i: Interval, j: Interval) -> bool {
+pub(crate) fn equal_intervals(i: Interval, j: Interval) -> bool {
     if i.low != j.low {
         return false;
     }

@@ -1,6 +1,6 @@
 -- `readings::hardware::bits64` is safe: what equals itself is no NaN. Assumes nothing.
 use borrow.Author.Needs.{needs}
-use Rattle.readings.proofs.Floats.{equal-no-nan}
+use Rattle.readings.proofs.Nan.{equal-no-nan}
 use Rattle.readings.proofs.hardware.bits64.Statement.{statement}
 use Rattle.readings.proofs.hardware.bits64.Tie as tie
 

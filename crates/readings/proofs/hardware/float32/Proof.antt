@@ -2,7 +2,7 @@
 use borrow.Author.Needs.{needs}
 use native.Mathlib.Omega.{arith}
 use lib.Ieee.{binary32}
-use Rattle.readings.proofs.Floats.{finite-no-nan}
+use Rattle.readings.proofs.Nan.{finite-no-nan}
 use Rattle.readings.proofs.hardware.float32.Statement.{statement}
 use Rattle.readings.proofs.hardware.float32.Tie as tie
 
