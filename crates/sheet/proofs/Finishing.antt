@@ -1,6 +1,6 @@
 -- The answer of narrowing a sheet, from how its run ended.
 -- Assumes nothing.
-use mathlib.Core.Path.{_≡_, refl, sym, ap, ap₂, _∙_}
+use mathlib.Core.Path.{_≡_, refl, sym, ap, ap₂, subst, _∙_}
 use Prim.Native.Nat.{ℕ, _<_}
 use native.Mathlib.Omega.{arith}
 use lib.ListN.{length, getD}
@@ -16,9 +16,9 @@ use Rattle.sheet.specs.declared.narrowing.Run.{Run}
 use Rattle.sheet.specs.Cells.{fractionOf, exponentOf, boxOf}
 use Rattle.sheet.specs.Sheets.{noSum, usedCells, usedSums, withCells, tidied, testOf}
 use Rattle.sheet.specs.Boxes.{Box, IsBox, Names}
-use Rattle.sheet.specs.Runs.{Ended, settled, stopped, noTriple, lastBox, endNumber}
+use Rattle.sheet.specs.Runs.{Ended, settled, stopped, noTriple, lastBox, endNumber, endValues}
 use Rattle.sheet.specs.Steps.{places, endOf, EndsAs}
-use Rattle.sheet.specs.Narrowings.{outcomeNumber, withBox, ranOn, runAfter, narrowSheetOf, Narrows}
+use Rattle.sheet.specs.Narrowings.{outcomeNumber, outcomeValues, withBox, ranOn, runAfter, narrowSheetOf, Narrows}
 use Rattle.sheet.proofs.Demand.{AllNames, run-box, run-demand3}
 use Rattle.sheet.proofs.Numbers.{test-number}
 use Rattle.sheet.proofs.Places.{box-found}
@@ -62,6 +62,8 @@ refused-narrows s r t =
     let n = test-number s r t in
     record {
       answer = ap (λ (a : Answer). runAfter a s) (sym t);
+      told = λ d. absurd (let z : _≡_ {A = ℕ} 0 1 = cc in omega arith);
+      kept = λ p q. refl;
       demand3 = record { settled = λ z. absurd (omega arith); stopped = λ z. absurd (omega arith); none = λ z. absurd (omega arith) };
     }
 
@@ -72,6 +74,17 @@ module _ (s : Sheet) (cells-long : length (s .cells) ≡ 64) (sums-long : length
   number-is (settled p box) = refl
   number-is (stopped p box) = refl
   number-is (noTriple p k) = refl
+
+  values-are : (e : Ended) → endValues e ≡ outcomeValues (ranOn s e .outcome)
+  values-are (settled p box) = refl
+  values-are (stopped p box) = refl
+  values-are (noTriple p k) = refl
+
+  -- only a run that ends with a box changes the sheet
+  kept-as : (e : Ended) → (outcomeNumber (ranOn s e .outcome) ≡ 0 → ⊥) → (outcomeNumber (ranOn s e .outcome) ≡ 12 → ⊥) → ranOn s e .sheet ≡ s
+  kept-as (settled p box) a b = absurd (a refl)
+  kept-as (stopped p box) a b = absurd (b refl)
+  kept-as (noTriple p k) a b = refl
 
   last-is :
       (e : Ended) → IsBox (fractionOf (s .width)) (exponentOf (s .width)) (s .«cell_count») (lastBox (boxOf (s .width) (usedCells s)) e) →
@@ -93,6 +106,8 @@ module _ (s : Sheet) (cells-long : length (s .cells) ≡ 64) (sums-long : length
       let box = rw n at (run-box (fractionOf (s .width)) (exponentOf (s .width)) (usedSums s) (s .limit) first is names) in
       record {
         answer = e ∙ ap (λ (a : Answer). runAfter a s) (sym t);
+        told = λ d. rw e (sym (number-is (endOf s)), sym (values-are (endOf s)));
+        kept = subst (λ (u : Run). (outcomeNumber (u .outcome) ≡ 0 → ⊥) → (outcomeNumber (u .outcome) ≡ 12 → ⊥) → u .sheet ≡ s) (sym e) (kept-as (endOf s));
         demand3 = rw e (rw (← (number-is (endOf s)), ← (last-is (endOf s) box)) whole);
       }
     where

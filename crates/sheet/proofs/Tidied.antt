@@ -68,10 +68,7 @@ module _ (s : Sheet) (cells-long : length (s .cells) ≡ 64) (sums-long : length
       let l = seen .few-sums in
       length-take-le (s .«sum_count») (s .sums) (omega arith)
 
-  -- the box of the cells in use
-  first : Box
-  first = boxOf (s .width) (usedCells s)
-
+  -- the cells in use stand for a box
   pub first-box : IsBox (fractionOf (s .width)) (exponentOf (s .width)) (s .«cell_count») (boxOf (s .width) (usedCells s))
   first-box = record { cells = length-map (usedCells s) (ordinalsOf (s .width)) ∙ used; proper = proper }
     where

@@ -10,7 +10,7 @@ use Rattle.sheet.specs.declared.passes.Outcome.the-variants.{Settled, No
 use Rattle.sheet.specs.declared.narrowing.Run.{Run}
 use Rattle.sheet.specs.Sheets.{usedCells, usedSums, withCells, tidied, testOf}
 use Rattle.sheet.specs.Boxes.{Box}
-use Rattle.sheet.specs.Runs.{Ended, settled, stopped, noTriple}
+use Rattle.sheet.specs.Runs.{Ended, settled, stopped, noTriple, endNumber, endValues}
 use Rattle.sheet.specs.Consistency.{Demand3}
 use Rattle.sheet.specs.Cells.{fractionOf, exponentOf, boxOf}
 use Rattle.sheet.specs.Steps.{places, endOf}
@@ -48,9 +48,11 @@ runAfter (Answer.Refused r) s = record { sheet = s; outcome = Refused r }
 unfoldable pub narrowSheetOf : Sheet → Run
 narrowSheetOf s = runAfter (testOf s) s
 
--- what the call promises: the answer, and demand 3 on the cells first given
+-- what the call promises: the answer; where the sheet passes its test, the run's number and values; that every refusal but 12 leaves the sheet as it came; and demand 3 on the cells first given
 pub record Narrows (s : Sheet) (r : Run) : Type 0 where
   pub answer : r ≡ narrowSheetOf s
+  pub told : testOf s ≡ Answer.Done → (outcomeNumber (r .outcome) ≡ endNumber (endOf s)) × (outcomeValues (r .outcome) ≡ endValues (endOf s))
+  pub kept : (outcomeNumber (r .outcome) ≡ 0 → ⊥) → (outcomeNumber (r .outcome) ≡ 12 → ⊥) → r .sheet ≡ s
   pub demand3 :
       Demand3 (fractionOf (s .width)) (exponentOf (s .width)) (usedSums s)
       (boxOf (s .width) (usedCells s)) (boxOf (s .width) (usedCells (r .sheet))) (outcomeNumber (r .outcome))

@@ -87,3 +87,9 @@ abbrev pub endNumber : Ended → ℕ
 endNumber (settled p box) = 0
 endNumber (stopped p box) = 12
 endNumber (noTriple p k) = 11
+
+-- 01's values: the passes made; or pass and sum
+abbrev pub endValues : Ended → List ℕ
+endValues (settled p box) = p ∷ []
+endValues (stopped p box) = p ∷ []
+endValues (noTriple p k) = p ∷ k ∷ []
