@@ -15,4 +15,5 @@ pub mod Numbers
 pub mod Finishing
 pub mod Growing
 pub mod Lists
+pub mod Loading
 pub mod Shared

@@ -5,9 +5,6 @@ use Rattle.sheet.specs.declared.kept.Sheet.{Sheet}
 use Rattle.sheet.specs.Loading.{withCounts}
 use Rattle.sheet.proofs.lent.count_lists.Statement.{statement}
 use Rattle.sheet.proofs.lent.count_lists.Tie as tie
-use Rattle.sheet.proofs.lent.count_lists.Reads as reads
-use Rattle.sheet.proofs.lent.count_lists.Lts as lts
-use Rattle.sheet.proofs.kept.blank_sheet.Reads as blank-sheet-reads
 
 -- src/lent.rt:27:9
 blank-sheet-requires : tie.Need-blank-sheet-requires

@@ -56,7 +56,6 @@ use Rattle.sheet.specs.Narrowings.{narrowSheetOf, Narrows}
 use Rattle.sheet.specs.Loading.{withCounts, loadedCells, loadedSums, storedCells, storedCount, sheetOf}
 use Rattle.sheet.specs.Lists.{NarrowsLists}
 use Rattle.arith.proofs.interval.Interval as T
-use Rattle.arith.proofs.interval.Interval.Laws as T′
 use Rattle.sheet.proofs.kept.Record as R
 use Rattle.sheet.proofs.kept.Sheet as S
 use Rattle.sheet.proofs.kept.Sheet.Laws as S′
