@@ -1,0 +1,19 @@
+-- `listing::from_text::list` meets its contract. Assumes nothing.
+use borrow.Author.Needs.{needs}
+use Rattle.listing.proofs.from_text.list.Statement.{statement}
+use Rattle.listing.proofs.from_text.list.Tie as tie
+
+run-text-requires : tie.Need-run-text-requires
+run-text-requires c κs = search needs
+
+write-run-requires : tie.Need-write-run-requires
+write-run-requires c κs = search needs
+
+same-length : tie.Need-same-length
+same-length c = search needs
+
+returns : tie.Need-returns
+returns c = rw (← c .before .before .before .before .run-text .ensures) (c .before .before .write-run .ensures)
+
+pub list-spec : {M : Type 1} → statement M
+list-spec = tie.close (tie.spec run-text-requires write-run-requires same-length returns)

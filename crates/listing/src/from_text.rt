@@ -1,0 +1,35 @@
+// From a sheet text to its listing.
+ghost use mathlib.Core.Path.{_≡_};
+ghost use Rattle.listing.specs.Listings.{runOf, listingOf};
+ghost use Rattle.listing.specs.Buffers.{sizeIn, storedIn};
+use crate::writer::Written;
+use crate::writer::write_run;
+use reader::read::read;
+use sheet::kept::Answer;
+use sheet::narrowing::Run;
+use sheet::narrowing::narrow_sheet;
+use sheet::passes::Outcome;
+
+// The run of a text's sheet, or the text's refusal.
+fn run_text(text: &[u8]) -> Run
+    ensures { λ r. ⌜ r ≡ runOf (now (text .entry)) ⌝ }
+{
+    let kept = read(text);
+    let sheet = kept.sheet;
+    let answer = kept.answer;
+    match answer {
+        Answer::Done => narrow_sheet(sheet),
+        Answer::Refused(r) => Run {
+            sheet,
+            outcome: Outcome::Refused(r),
+        },
+    }
+}
+
+// The listing of any text, its refusal included, into a lent buffer; only 13 is refused. Bytes after the listing stay as they were.
+pub fn list(text: &[u8], out: &mut [u8]) -> Written
+    ensures { λ r. ⌜ (r ≡ sizeIn (listingOf (runOf (now (text .entry)))) (now (out .entry))) × (now (out .exit) ≡ storedIn (listingOf (runOf (now (text .entry)))) (now (out .entry))) ⌝ }
+{
+    let run = run_text(text);
+    write_run(run, out)
+}

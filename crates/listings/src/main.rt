@@ -1,0 +1,111 @@
+// Prints the listings of 01's other sheets and of a text for each refusal, each held to the stored output. Thin over the crate `listing`.
+use libc::STDOUT_FILENO;
+use listing::from_text::list;
+use listing::writer::Written;
+
+// The listing of a text.
+fn show(text: &[u8]) {
+    let mut out = [0u8; 4096];
+    let written = list(text, &mut out);
+    if let Written::Length(m) = written {
+        io::write_all(STDOUT_FILENO, &out[..m]);
+    }
+}
+
+// Stores bytes from a position on, as far as they fit, and returns the position after them.
+fn append(buf: &mut [u8], at: usize, s: &[u8]) -> usize {
+    if buf.len() <= at {
+        return at;
+    }
+    let room = buf.len() - at;
+    let mut i = 0;
+    while i < s.len() {
+        if room <= i {
+            return at + i;
+        }
+        buf[at + i] = s[i];
+        i += 1;
+    }
+    at + i
+}
+
+// The listing of some first lines and a line that comes n times.
+fn show_many(head: &[u8], line: &[u8], n: usize) {
+    let mut text = [0u8; 8192];
+    let mut at = append(&mut text, 0, head);
+    for _ in 0..n {
+        at = append(&mut text, at, line);
+    }
+    if at <= 8192 {
+        show(&text[..at]);
+    }
+}
+
+// 01's sheets: the whole listing with limit 1, and the two sums with limits 5 and 6; width 32; no sums; a sum of cells that share nothing.
+fn sheets() {
+    show(
+        b"sheet\t64\t1\ncell\tC630000000000000\tC330000000000000\ncell\t3FF0000000000000\t4630000000000000\ncell\t3FE0000000000000\t3FF8000000000000\nsum\t0\t1\t2\n",
+    );
+    show(
+        b"sheet\t64\t5\ncell\t0000000000000000\t000000000000000A\ncell\t0000000000000001\t0000000000000001\ncell\t0000000000000000\t000000000000000A\ncell\t0000000000000000\t0000000000000000\nsum\t0\t1\t2\nsum\t2\t3\t0\n",
+    );
+    show(
+        b"sheet\t64\t6\ncell\t0000000000000000\t000000000000000A\ncell\t0000000000000001\t0000000000000001\ncell\t0000000000000000\t000000000000000A\ncell\t0000000000000000\t0000000000000000\nsum\t0\t1\t2\nsum\t2\t3\t0\n",
+    );
+    show(
+        b"sheet\t32\t65535\ncell\tFF7FFFFF\t7F7FFFFF\ncell\t3F800000\t3F800000\ncell\t3F800000\t3F800000\nsum\t0\t1\t2\n",
+    );
+    show(b"sheet\t32\t1\ncell\t80000000\t00000000\n");
+    show(b"sheet\t64\t1\n");
+}
+
+// Refusal 4: no head, no line feed, an unknown or misplaced record, fields too few, too many or malformed.
+fn malformed() {
+    show(b"");
+    show(b"\n");
+    show(b"sheet\t64\t10");
+    show(b"cell\t00000000\t00000000\n");
+    show(b"sheet\t64\t010\n");
+    show(b"sheet\t64\t100000\n");
+    show(b"sheet\t64\t10\t\n");
+    show(b"sheet\t64\t10\nsheet\t64\t10\n");
+    show(b"sheet\t64\t10\nrow\t0\t1\n");
+    show(b"sheet\t64\t10\ncell\t3ff0000000000000\t4000000000000000\n");
+    show(b"sheet\t64\t10\ncell\t3FF00000\t40000000\n");
+    show(b"sheet\t64\t10\nsum\t0\t1\n");
+}
+
+// Refusals 1, 7, 2, 3, 5 and 6, the first bad line of several, and 4 before what else a line has.
+fn refused() {
+    show(b"sheet\t16\t10\n");
+    show(b"sheet\t16\t0\n");
+    show(b"sheet\t64\t0\n");
+    show(b"sheet\t64\t65536\n");
+    show(b"sheet\t64\t10\ncell\t7FF0000000000000\t7FF0000000000000\n");
+    show(b"sheet\t32\t10\ncell\t00000000\tFF800000\n");
+    show(b"sheet\t64\t10\ncell\t3FF0000000000000\t0000000000000000\n");
+    show(b"sheet\t64\t10\ncell\t0000000000000000\t0000000000000000\nsum\t0\t1\t2\n");
+    show(b"sheet\t32\t10\ncell\t00000000\t00000000\ncell\t00000000\t00000000\nsum\t0\t0\t1\n");
+    show(b"sheet\t64\t10\nsum\t0\t0\t0\ncell\t0\t0\n");
+    show(b"sheet\t16\t010\n");
+}
+
+fn main() {
+    sheets();
+    malformed();
+    refused();
+    let long = [10u8; 8193];
+    show(&long);
+    show_many(b"sheet\t32\t1\n", b"cell\t00000000\t3F800000\n", 64);
+    show_many(b"sheet\t32\t1\n", b"cell\t00000000\t3F800000\n", 65);
+    show_many(
+        b"sheet\t32\t9\ncell\t00000000\t3F800000\ncell\t00000000\t3F800000\ncell\t00000000\t3F800000\n",
+        b"sum\t0\t1\t2\n",
+        128,
+    );
+    show_many(
+        b"sheet\t32\t9\ncell\t00000000\t3F800000\ncell\t00000000\t3F800000\ncell\t00000000\t3F800000\n",
+        b"sum\t0\t1\t2\n",
+        129,
+    );
+}

@@ -1,0 +1,135 @@
+-- Sheets by the lists of their cells and sums: such a sheet passes its own test and is in its written form, and adding puts one more at the end. Rests on the laws of `sheet`.
+use mathlib.Core.Path.{_≡_, refl, sym, ap, _∙_}
+use mathlib.Core.List.{List, [], _∷_, _++_, map, append-assoc}
+use Prim.Native.Nat.{ℕ, suc, _+_, _-_, _≤_, _<_}
+use native.Mathlib.Omega.{arith}
+use lib.ListN.{length, set, replicate, length-append, length-map}
+use lib.Seq.{take-at, set-at}
+use borrow.Author.Tests.{lt-ltb}
+use Rattle.arith.specs.declared.interval.Interval.{Interval}
+use Rattle.arith.proofs.Valid.{valid-bounded, written-span, written-valid}
+use Rattle.sheet.specs.declared.kept.Record.{Record}
+use Rattle.sheet.specs.declared.kept.Sheet.{Sheet}
+use Rattle.sheet.specs.declared.kept.Answer.the-variants.{Done}
+use Rattle.sheet.specs.Cells.{ordinalsOf, patternsOf, canonicalCell}
+use Rattle.sheet.specs.Faults.{headFault, cellFault, sumFault}
+use Rattle.sheet.specs.Sheets.{noCell, noSum, filled, usedCells, usedSums, tidied, withCell, withSum, firstFault, testOf, addCellOf, addSumOf}
+use Rattle.sheet.proofs.Answers.{passes-test, added}
+use Rattle.sheet.proofs.Firsts.{faultless, none-found}
+use Rattle.sheet.proofs.Cells.{fault-free, no-fault}
+
+-- ---- lists without a fault
+abbrev pub Faultless : {A : Type 0} → (A → ℕ) → List A → Type 0
+Faultless fault [] = Unit {0}
+Faultless fault (v ∷ vs) = (fault v ≡ 0) × Faultless fault vs
+
+module _ {A : Type 0} (fault : A → ℕ) where
+  pub faultless-list : (d : A) (i : ℕ) (l : List A) → firstFault fault i l ≡ Done → Faultless fault l
+  faultless-list d i [] e = tt
+  faultless-list d i (v ∷ vs) e = (
+    faultless fault d i (v ∷ vs) e 0 (omega arith),
+    faultless-list d (i + 1) vs (none-found fault d (i + 1) vs (λ j h. faultless fault d i (v ∷ vs) e (suc j) (omega arith))),
+  )
+
+  first-none : (i : ℕ) (l : List A) → Faultless fault l → firstFault fault i l ≡ Done
+  unfolding firstFault
+  first-none i [] f = refl
+  first-none i (v ∷ vs) f = rw (f .0, first-none (i + 1) vs (f .1))
+
+  pub faultless-append : (xs ys : List A) → Faultless fault xs → Faultless fault ys → Faultless fault (xs ++ ys)
+  faultless-append [] ys f g = g
+  faultless-append (x ∷ xs) ys f g = (f .0, faultless-append xs ys (f .1) g)
+
+  pub faultless-front : (xs ys : List A) → Faultless fault (xs ++ ys) → Faultless fault xs
+  faultless-front [] ys f = tt
+  faultless-front (x ∷ xs) ys f = (f .0, faultless-front xs ys (f .1))
+
+  pub faultless-next : (xs : List A) (y : A) (ys : List A) → Faultless fault (xs ++ (y ∷ ys)) → fault y ≡ 0
+  faultless-next [] y ys f = f .0
+  faultless-next (x ∷ xs) y ys f = faultless-next xs y ys (f .1)
+
+-- ---- canonical patterns
+module _ (w : ℕ) where
+  canonical-faultless : (I : Interval) → cellFault w I ≡ 0 → cellFault w (canonicalCell w I) ≡ 0
+  canonical-faultless I z =
+      let v = fault-free w I z in
+      let b = valid-bounded w I v in
+      no-fault w (canonicalCell w I) (written-valid w (ordinalsOf w I) (b .0) (v .known) (b .1))
+
+  canonical-again : (I : Interval) → cellFault w I ≡ 0 → canonicalCell w (canonicalCell w I) ≡ canonicalCell w I
+  canonical-again I z = ap (patternsOf w) (written-span w (ordinalsOf w I) (valid-bounded w I (fault-free w I z) .0))
+
+  cells-faultless : (cs : List Interval) → Faultless (cellFault w) cs → Faultless (cellFault w) (map (canonicalCell w) cs)
+  cells-faultless [] f = tt
+  cells-faultless (I ∷ cs) f = (canonical-faultless I (f .0), cells-faultless cs (f .1))
+
+  cells-again : (cs : List Interval) → Faultless (cellFault w) cs → map (canonicalCell w) (map (canonicalCell w) cs) ≡ map (canonicalCell w) cs
+  cells-again [] f = refl
+  cells-again (I ∷ cs) f = rw (canonical-again I (f .0), cells-again cs (f .1))
+
+-- ---- the sheet with these cells and sums in use
+abbrev pub built : ℕ → ℕ → List Interval → List Record → Sheet
+built w m cs ts =
+    record {
+      width = w;
+      limit = m;
+      «cell_count» = length cs;
+      «sum_count» = length ts;
+      cells = filled 64 noCell (map (canonicalCell w) cs) (length cs);
+      sums = filled 128 noSum ts (length ts);
+    }
+
+-- what its test asks
+pub record Sound (w m : ℕ) (cs : List Interval) (ts : List Record) : Type 0 where
+  pub head : headFault w m ≡ 0
+  pub few-cells : length cs ≤ 64
+  pub few-sums : length ts ≤ 128
+  pub cells : Faultless (cellFault w) cs
+  pub sums : Faultless (sumFault (length cs)) ts
+
+-- one more in the place that comes next
+filled-more : {A : Type 0} (places n : ℕ) (v a : A) (l : List A) → length l ≡ n → n < places → set (filled places v l n) n a ≡ filled places v (l ++ (a ∷ [])) (n + 1)
+filled-more places n v a l e h =
+    let m : places - n ≡ suc (places - (n + 1)) = omega arith in
+    rw (m, set-at l v (replicate (places - (n + 1)) v) a n e) (sym (append-assoc l (a ∷ []) (replicate (places - (n + 1)) v)))
+
+pub length-more : {A : Type 0} (l : List A) (a : A) → length (l ++ (a ∷ [])) ≡ length l + 1
+length-more l a = length-append l (a ∷ [])
+
+map-more : {A B : Type 0} (f : A → B) (l : List A) (a : A) → map f (l ++ (a ∷ [])) ≡ map f l ++ (f a ∷ [])
+map-more f [] a = refl
+map-more f (x ∷ xs) a = ap (λ t. f x ∷ t) (map-more f xs a)
+
+module _ (w m : ℕ) (cs : List Interval) (ts : List Record) (g : Sound w m cs ts) where
+  used-cells : usedCells (built w m cs ts) ≡ map (canonicalCell w) cs
+  used-cells = take-at (map (canonicalCell w) cs) (replicate (64 - length cs) noCell) (length cs) (length-map cs (canonicalCell w))
+
+  used-sums : usedSums (built w m cs ts) ≡ ts
+  used-sums = take-at ts (replicate (128 - length ts) noSum) (length ts) refl
+
+  pub built-passes : testOf (built w m cs ts) ≡ Done
+  built-passes =
+      passes-test w m (length cs) (length ts) (usedCells (built w m cs ts)) (usedSums (built w m cs ts))
+      (record {
+        head = g .head;
+        few-cells = g .few-cells;
+        few-sums = g .few-sums;
+        cells-good = rw used-cells (first-none (cellFault w) 0 (map (canonicalCell w) cs) (cells-faultless w cs (g .cells)));
+        sums-good = rw used-sums (first-none (sumFault (length cs)) 0 ts (g .sums));
+      })
+
+  pub built-tidied : tidied (built w m cs ts) ≡ built w m cs ts
+  unfolding tidied
+  built-tidied = rw (used-cells, used-sums, cells-again w cs (g .cells))
+
+  pub add-cell : (I : Interval) → cellFault w I ≡ 0 → length cs < 64 → addCellOf (built w m cs ts) I ≡ record { sheet = built w m (cs ++ (I ∷ [])) ts; answer = Done }
+  unfolding addCellOf
+  add-cell I z h =
+      sym (added (built w m cs ts) (withCell (tidied (built w m cs ts)) (canonicalCell w I)) (testOf (built w m cs ts)) (cellFault w I) _ built-passes z (lt-ltb (length cs) 64 h))
+      ∙ rw (built-tidied, length-more cs I, map-more (canonicalCell w) cs I, filled-more 64 (length cs) noCell (canonicalCell w I) (map (canonicalCell w) cs) (length-map cs (canonicalCell w)) h)
+
+  pub add-sum : (t : Record) → sumFault (length cs) t ≡ 0 → length ts < 128 → addSumOf (built w m cs ts) t ≡ record { sheet = built w m cs (ts ++ (t ∷ [])); answer = Done }
+  unfolding addSumOf
+  add-sum t z h =
+      sym (added (built w m cs ts) (withSum (tidied (built w m cs ts)) t) (testOf (built w m cs ts)) (sumFault (length cs) t) _ built-passes z (lt-ltb (length ts) 128 h))
+      ∙ rw (built-tidied, length-more ts t, filled-more 128 (length ts) noSum t ts refl h)

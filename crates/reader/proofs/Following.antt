@@ -1,0 +1,57 @@
+-- Reading a text record by record: what is left to read gives the same sheet as the whole text. Rests on specs/Readings and Moving.
+use mathlib.Core.Path.{_≡_, refl}
+use mathlib.Core.List.{List}
+use Prim.Native.Nat.{ℕ, zero, suc, _-_, _<_, _≤_}
+use native.Mathlib.Omega.{arith}
+use lib.ListN.{length}
+use Rattle.sheet.specs.declared.kept.Sheet.{Sheet}
+use Rattle.sheet.specs.declared.kept.Answer.the-variants as Answer
+use Rattle.sheet.specs.Sheets.{blank, openOf, addCellOf, addSumOf}
+use Rattle.reader.specs.Steps.{start, nextOf}
+use Rattle.reader.specs.Readings.{followed, readFrom, readOf, refusedText}
+use Rattle.reader.specs.declared.cursor.Cursor.{Cursor}
+use Rattle.reader.specs.declared.cursor.Step.{Step}
+use Rattle.reader.specs.declared.cursor.Step.the-variants.{Head, Cell, Sum, End, Refused}
+use Rattle.reader.proofs.Moving.{Given, a-head, a-cell, a-sum, the-end, a-refusal, given}
+
+-- the whole text gives what reading on from c with the sheet s gives, and there are steps enough to reach the end
+pub record Reading (text : List ℕ) (c : Cursor) (s : Sheet) : Type 0 where
+  pub left : ℕ
+  pub enough : length text - c .at < left
+  pub same : readOf text ≡ readFrom left text c s
+
+pub begun : (text : List ℕ) → Reading text start (blank 0 0)
+unfolding readOf
+begun text = record { left = suc (length text); enough = omega arith; same = refl }
+
+-- the same at the cursor d that a step from c hands on, with less text to come
+pub record Onward (text : List ℕ) (c d : Cursor) (s : Sheet) : Type 0 where
+  pub less : length text - d .at < length text - c .at
+  pub reading : Reading text d s
+
+-- after a step: the reading goes on, or the answer is known
+abbrev pub Follows : List ℕ → Cursor → Sheet → Step → Type 0
+Follows text c s (Head w m d) = Onward text c d (openOf w m .sheet)
+Follows text c s (Cell i d) = Onward text c d (addCellOf s i .sheet)
+Follows text c s (Sum t d) = Onward text c d (addSumOf s t .sheet)
+Follows text c s End = readOf text ≡ record { sheet = s; answer = Answer.Done }
+Follows text c s (Refused r) = readOf text ≡ refusedText r
+
+module _ (text : List ℕ) (c : Cursor) (n : ℕ) (h : length text - c .at < suc n) where
+  onward : (d : Cursor) (s : Sheet) → c .at < d .at → d .at ≤ length text → readOf text ≡ readFrom n text d s → Onward text c d s
+  onward d s p q e = record { less = omega arith; reading = record { left = n; enough = omega arith; same = e } }
+
+  step-follows : (s : Sheet) (t : Step) → Given (length text) c t → readOf text ≡ followed (readFrom n text) s t → Follows text c s t
+  step-follows s (Head w m d) (a-head z f o) e = onward d (openOf w m .sheet) (o .past) (o .within) e
+  step-follows s (Cell I d) (a-cell p f l o) e = onward d (addCellOf s I .sheet) (o .past) (o .within) e
+  step-follows s (Sum t d) (a-sum p f l o) e = onward d (addSumOf s t .sheet) (o .past) (o .within) e
+  step-follows s End (the-end p) e = e
+  step-follows s (Refused r) a-refusal e = e
+
+read-follows : (text : List ℕ) (c : Cursor) (s : Sheet) (n : ℕ) → length text - c .at < n → readOf text ≡ readFrom n text c s → Follows text c s (nextOf text c)
+unfolding readFrom
+read-follows text c s zero h e = absurd (omega arith)
+read-follows text c s (suc n) h e = step-follows text c n h s (nextOf text c) (given text c) e
+
+pub follows : {text : List ℕ} {c : Cursor} {s : Sheet} → Reading text c s → Follows text c s (nextOf text c)
+follows {text} {c} {s} r = read-follows text c s (r .left) (r .enough) (r .same)

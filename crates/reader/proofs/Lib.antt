@@ -1,0 +1,11 @@
+pub mod Searching
+pub mod Digits
+pub mod Moving
+pub mod Following
+pub mod Numerals
+pub mod Fields
+pub mod Building
+pub mod Records
+pub mod Walking
+pub mod RoundTrip
+pub mod Tested

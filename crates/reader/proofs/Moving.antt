@@ -1,0 +1,116 @@
+-- What holds of a step: a head stands at the start and only there, a record that is given has no fault and moves the cursor past its line, and the cursor keeps the width and the counts. Rests on specs/Steps.
+use mathlib.Core.Path.{_≡_, refl}
+use mathlib.Core.Bool.{Bool, true, false, cond}
+use mathlib.Core.List.{List}
+use Prim.Native.Nat.{ℕ, _+_, _<_, _≤_}
+use native.Mathlib.Omega.{arith}
+use lib.Dec.{eqb, ltb, leb}
+use lib.ListN.{length, drop, length-drop}
+use borrow.Author.Tests.{eqb-true, eqb-false, ltb-true, leb-false}
+use Rattle.arith.specs.declared.interval.Interval.{Interval}
+use Rattle.arith.specs.declared.refusal.Refusal.{Refusal}
+use Rattle.sheet.specs.declared.kept.Record.{Record}
+use Rattle.sheet.specs.Faults.{headFault, cellFault, sumFault}
+use Rattle.reader.specs.Bytes.{indexOf, before, after, isSame}
+use Rattle.reader.specs.Numbers.{numeralOf, patternOf}
+use Rattle.reader.specs.Lines.{tab, feed, sheetWord, cellWord, sumWord, headFrom, cellFrom, sumFrom, headIn, cellIn, sumIn, lineOf}
+use Rattle.reader.specs.Steps.{headStep, cellStep, sumStep, admitted, lineNumber, nextOf}
+use Rattle.reader.specs.declared.number.Number.{Number}
+use Rattle.reader.specs.declared.number.Number.the-variants as Number
+use Rattle.reader.specs.declared.line.Line.{Line}
+use Rattle.reader.specs.declared.line.Line.the-variants as Line
+use Rattle.reader.specs.declared.cursor.Cursor.{Cursor}
+use Rattle.reader.specs.declared.cursor.Step.{Step}
+use Rattle.reader.specs.declared.cursor.Step.the-variants.{Head, Cell, Sum, End, Refused}
+
+nonzero : (n : ℕ) → eqb n 0 ≡ false → 0 < n
+nonzero n e = let h = eqb-false n 0 e in omega arith
+
+-- ---- where a line may stand
+data Placed (at : ℕ) : Line → Type 0 where
+  head : {w m : ℕ} → at ≡ 0 → Placed at (Line.Head w m)
+  cell : {I : Interval} → 0 < at → Placed at (Line.Cell I)
+  sum : {t : Record} → 0 < at → Placed at (Line.Sum t)
+  nowhere : Placed at Line.Malformed
+
+module _ (at : ℕ) where
+  either : (t : Bool) {a b : Line} → (t ≡ true → Placed at a) → (t ≡ false → Placed at b) → Placed at (cond t a b)
+  either true p q = p refl
+  either false p q = q refl
+
+  head-placed : at ≡ 0 → (w m : Number) → Placed at (headFrom w m)
+  unfolding headFrom
+  head-placed z Number.Malformed m = nowhere
+  head-placed z (Number.Value w) Number.Malformed = nowhere
+  head-placed z (Number.Value w) (Number.Value m) = head z
+
+  cell-placed : 0 < at → (l h : Number) → Placed at (cellFrom l h)
+  unfolding cellFrom
+  cell-placed p Number.Malformed h = nowhere
+  cell-placed p (Number.Value l) Number.Malformed = nowhere
+  cell-placed p (Number.Value l) (Number.Value h) = cell p
+
+  sum-placed : 0 < at → (x a b : Number) → Placed at (sumFrom x a b)
+  unfolding sumFrom
+  sum-placed p Number.Malformed a b = nowhere
+  sum-placed p (Number.Value x) Number.Malformed b = nowhere
+  sum-placed p (Number.Value x) (Number.Value a) Number.Malformed = nowhere
+  sum-placed p (Number.Value x) (Number.Value a) (Number.Value b) = sum p
+
+  placed : (w : ℕ) (l : List ℕ) → Placed at (lineOf at w l)
+  unfolding lineOf headIn cellIn sumIn
+  placed w l =
+      let fields = after tab l in
+      either (eqb at 0)
+      (λ e. either (isSame (before tab l) sheetWord) (λ _. head-placed (eqb-true at 0 e) (numeralOf (before tab fields)) (numeralOf (after tab fields))) (λ _. nowhere))
+      (λ e. either (isSame (before tab l) cellWord)
+      (λ _. cell-placed (nonzero at e) (patternOf w (before tab fields)) (patternOf w (after tab fields)))
+      (λ _. either (isSame (before tab l) sumWord)
+      (λ _. sum-placed (nonzero at e) (numeralOf (before tab fields)) (numeralOf (before tab (after tab fields))) (numeralOf (after tab (after tab fields))))
+      (λ _. nowhere)))
+
+-- ---- the cursor d that a record at c hands on, in a text of so many bytes: past c, with a width and counts
+pub record Onto (size : ℕ) (c d : Cursor) (w i j : ℕ) : Type 0 where
+  pub past : c .at < d .at
+  pub within : d .at ≤ size
+  pub width : d .width ≡ w
+  pub cells : d .«cell_count» ≡ i
+  pub sums : d .«sum_count» ≡ j
+
+-- what holds of a step from c
+pub data Given (size : ℕ) (c : Cursor) : Step → Type 0 where
+  a-head : {w m : ℕ} {d : Cursor} → c .at ≡ 0 → headFault w m ≡ 0 → Onto size c d w 0 0 → Given size c (Head w m d)
+  a-cell : {I : Interval} {d : Cursor} → 0 < c .at → cellFault (c .width) I ≡ 0 → c .«cell_count» < 64 → Onto size c d (c .width) (c .«cell_count» + 1) (c .«sum_count») → Given size c (Cell I d)
+  a-sum : {t : Record} {d : Cursor} → 0 < c .at → sumFault (c .«cell_count») t ≡ 0 → c .«sum_count» < 128 → Onto size c d (c .width) (c .«cell_count») (c .«sum_count» + 1) → Given size c (Sum t d)
+  the-end : 0 < c .at → Given size c End
+  a-refusal : {r : Refusal} → Given size c (Refused r)
+
+module _ (size : ℕ) (c : Cursor) where
+  choose : (t : Bool) {a b : Step} → (t ≡ true → Given size c a) → (t ≡ false → Given size c b) → Given size c (cond t a b)
+  choose true p q = p refl
+  choose false p q = q refl
+
+  module _ (line next : ℕ) (h : c .at < next) (k : next ≤ size) where
+    line-given : (l : Line) → Placed (c .at) l → Given size c (admitted l line next c)
+    unfolding admitted headStep cellStep sumStep
+    line-given (Line.Head w m) (head z) = choose (eqb (headFault w m) 0) (λ e. a-head z (eqb-true (headFault w m) 0 e) (record { past = h; within = k; width = refl; cells = refl; sums = refl })) (λ _. a-refusal)
+    line-given (Line.Cell I) (cell p) =
+        choose (eqb (cellFault (c .width) I) 0)
+        (λ e. choose (leb 64 (c .«cell_count»)) (λ _. a-refusal) (λ f. a-cell p (eqb-true (cellFault (c .width) I) 0 e) (leb-false 64 (c .«cell_count») f) (record { past = h; within = k; width = refl; cells = refl; sums = refl })))
+        (λ _. a-refusal)
+    line-given (Line.Sum t) (sum p) =
+        choose (eqb (sumFault (c .«cell_count») t) 0)
+        (λ e. choose (leb 128 (c .«sum_count»)) (λ _. a-refusal) (λ f. a-sum p (eqb-true (sumFault (c .«cell_count») t) 0 e) (leb-false 128 (c .«sum_count») f) (record { past = h; within = k; width = refl; cells = refl; sums = refl })))
+        (λ _. a-refusal)
+    line-given Line.Malformed nowhere = a-refusal
+
+pub given : (text : List ℕ) (c : Cursor) → Given (length text) c (nextOf text c)
+unfolding nextOf
+given text c =
+    let size = length text in
+    let rest = drop (c .at) text in
+    let next = c .at + indexOf feed rest + 1 in
+    choose size c (ltb 8192 size) (λ _. a-refusal)
+    (λ _. choose size c (ltb (indexOf feed rest) (length rest))
+    (λ e. let h = ltb-true (indexOf feed rest) (length rest) e in line-given size c (lineNumber text (c .at)) next (omega arith) (omega (arith, length-drop (c .at) text)) (lineOf (c .at) (c .width) (before feed rest)) (placed (c .at) (c .width) (before feed rest)))
+    (λ _. choose size c (eqb (length rest) 0) (λ _. choose size c (eqb (c .at) 0) (λ _. a-refusal) (λ e. the-end (nonzero (c .at) e))) (λ _. a-refusal)))

@@ -1,0 +1,194 @@
+-- The text of a sheet reads back as that sheet. Rests on Building, Records and Walking.
+use mathlib.Core.Path.{_≡_, refl, sym, ap, _∙_}
+use mathlib.Core.Bool.{Bool, true, false, cond, _||_}
+use mathlib.Core.List.{List, [], _∷_, _++_, append-assoc, append-nil}
+use Prim.Native.Nat.{ℕ, suc, _+_, _-_, _*_, _≤_, _<_}
+use native.Mathlib.Omega.{arith}
+use lib.Dec.{leb, ltb, eqb}
+use lib.ListN.{length, length-append, drop-of-length-le}
+use lib.Seq.{length-take-le}
+use borrow.Author.Tests.{eq-eqb, ne-eqb, le-ltb, lt-leb, leb-false, ltb-false, eqb-true}
+use Rattle.arith.specs.declared.interval.Interval.{Interval}
+use Rattle.sheet.specs.declared.kept.Record.{Record}
+use Rattle.sheet.specs.declared.kept.Sheet.{Sheet}
+use Rattle.sheet.specs.declared.kept.Answer.the-variants.{Done}
+use Rattle.sheet.specs.Faults.{headFault, cellFault, sumFault}
+use Rattle.sheet.specs.Sheets.{noCell, noSum, blank, usedCells, usedSums, tidied, testOf}
+use Rattle.sheet.proofs.Answers.{opened, passed}
+use Rattle.reader.specs.Bytes.{indexOf}
+use Rattle.reader.specs.Lines.{feed}
+use Rattle.reader.specs.Steps.{start, headStep, cellStep, sumStep, admitted, nextOf}
+use Rattle.reader.specs.Readings.{readFrom, readOf}
+use Rattle.reader.specs.Texts.{headText, cellText, sumText, textLines, textFor, textOf}
+use Rattle.reader.specs.declared.cursor.Step.the-variants.{Head, Cell, Sum, End}
+use Rattle.reader.proofs.Building.{Faultless, faultless-list, faultless-front, faultless-next, built, Sound, length-more, add-cell, add-sum}
+use Rattle.reader.proofs.Records.{cell-small, Few, head-back, cell-back, sum-back, head-free, cell-free, sum-free, head-length, cell-length, sum-length}
+use Rattle.reader.proofs.Walking.{after, next-line, length-line, walk}
+
+-- ---- what the faults say of numbers
+pub record GoodHead (w m : ℕ) : Type 0 where
+  pub width : w < 100000
+  pub limit : m < 100000
+
+head-good : (w m : ℕ) → headFault w m ≡ 0 → GoodHead w m
+unfolding headFault
+head-good w m = go (eqb w 32) refl (eqb w 64) refl (ltb m 1) (ltb 65535 m) refl
+  where
+    go :
+        (p : Bool) → eqb w 32 ≡ p → (q : Bool) → eqb w 64 ≡ q → (r s : Bool) → ltb 65535 m ≡ s →
+        _≡_ {A = ℕ} (cond (p || q) (cond r 7 (cond s 7 0)) 1) 0 → GoodHead w m
+    go false e false f r s g z = absurd (omega arith)
+    go false e true f true s g z = absurd (omega arith)
+    go false e true f false true g z = absurd (omega arith)
+    go false e true f false false g z = record { width = omega (arith, eqb-true w 64 f); limit = omega (arith, ltb-false 65535 m g) }
+    go true e q f true s g z = absurd (omega arith)
+    go true e q f false true g z = absurd (omega arith)
+    go true e q f false false g z = record { width = omega (arith, eqb-true w 32 e); limit = omega (arith, ltb-false 65535 m g) }
+
+sum-few : (n : ℕ) (t : Record) → n ≤ 64 → sumFault n t ≡ 0 → Few t
+unfolding sumFault
+sum-few n t h = go (leb n (t .x)) refl (leb n (t .a)) refl (leb n (t .b)) refl _
+  where
+    go :
+        (p : Bool) → leb n (t .x) ≡ p → (q : Bool) → leb n (t .a) ≡ q → (r : Bool) → leb n (t .b) ≡ r → (rest : ℕ) →
+        cond p 5 (cond q 5 (cond r 5 rest)) ≡ 0 → Few t
+    go true e q f r g rest z = absurd (omega arith)
+    go false e true f r g rest z = absurd (omega arith)
+    go false e false f true g rest z = absurd (omega arith)
+    go false e false f false g rest z =
+        let x = leb-false n (t .x) e in
+        let a = leb-false n (t .a) f in
+        let b = leb-false n (t .b) g in
+        record { x = omega arith; a = omega arith; b = omega arith }
+
+-- ---- the step at each kind of line
+head-next : (rest : List ℕ) (w m : ℕ) → length (headText w m ++ (feed ∷ rest)) ≤ 8192 → headFault w m ≡ 0 → nextOf (headText w m ++ (feed ∷ rest)) start ≡ Head w m (after (headText w m ++ (feed ∷ [])) w 0 0)
+unfolding admitted headStep
+head-next rest w m h z =
+    let g = head-good w m z in
+    rw (next-line [] (headText w m) rest 0 0 0 (head-free w m) h, head-back 0 w m (g .width) (g .limit), eq-eqb (headFault w m) 0 z, length-line [] (headText w m))
+
+module _ (text read rest : List ℕ) (w i j : ℕ) (h : length text ≤ 8192) (p : 0 < length read) where
+  cell-next : (I : Interval) → text ≡ read ++ (cellText w I ++ (feed ∷ rest)) → cellFault w I ≡ 0 → i < 64 → nextOf text (after read w i j) ≡ Cell I (after (read ++ (cellText w I ++ (feed ∷ []))) w (i + 1) j)
+  unfolding admitted cellStep
+  cell-next I e z l =
+      rw (e, next-line read (cellText w I) rest w i j (cell-free w I) (rw e at h), cell-back (length read) w I p (cell-small w I z), eq-eqb (cellFault w I) 0 z, lt-leb 64 i l, length-line read (cellText w I))
+
+  sum-next : (t : Record) → text ≡ read ++ (sumText t ++ (feed ∷ rest)) → Few t → sumFault i t ≡ 0 → j < 128 → nextOf text (after read w i j) ≡ Sum t (after (read ++ (sumText t ++ (feed ∷ []))) w i (j + 1))
+  unfolding admitted sumStep
+  sum-next t e f z l =
+      rw (e, next-line read (sumText t) rest w i j (sum-free t) (rw e at h), sum-back (length read) w t p f, eq-eqb (sumFault i t) 0 z, lt-leb 128 j l, length-line read (sumText t))
+
+end-next : (text : List ℕ) (w i j : ℕ) → length text ≤ 8192 → 0 < length text → nextOf text (after text w i j) ≡ End
+unfolding nextOf indexOf
+end-next text w i j h p =
+    let l : length text ≤ length text = omega arith in
+    rw (le-ltb 8192 (length text) h, drop-of-length-le text l, ne-eqb (length text) 0 (λ e. omega arith))
+
+-- ---- the length of the text
+lines-short : {A : Type 0} (line : A → List ℕ) (fault : A → ℕ) → ((v : A) → fault v ≡ 0 → length (line v) ≤ 38) → (l : List A) → Faultless fault l → length (textLines line l) ≤ 39 * length l
+unfolding textLines
+lines-short line fault k [] f = omega arith
+lines-short line fault k (v ∷ vs) f = simp length-append (omega (arith, k v (f .0), lines-short line fault k vs (f .1)))
+
+lines-long : {A : Type 0} (line : A → List ℕ) (l : List A) → length l ≤ length (textLines line l)
+unfolding textLines
+lines-long line [] = omega arith
+lines-long line (v ∷ vs) = simp length-append (omega (arith, lines-long line vs))
+
+-- ---- the text of cells and sums that the test lets pass
+module _ (w m : ℕ) (cs : List Interval) (ts : List Record) (g : Sound w m cs ts) where
+  abbrev text : List ℕ
+  text = textFor w m cs ts
+
+  abbrev headed : List ℕ
+  headed = headText w m ++ (feed ∷ [])
+
+  few : (t : Record) → sumFault (length cs) t ≡ 0 → Few t
+  few t z = sum-few (length cs) t (g .few-cells) z
+
+  fits : length text ≤ 8192
+  fits =
+      let d = head-good w m (g .head) in
+      let a = head-length w m (d .width) (d .limit) in
+      let b = lines-short (cellText w) (cellFault w) (λ v z. cell-length w v) cs (g .cells) in
+      let c = lines-short sumText (sumFault (length cs)) (λ v z. omega (arith, sum-length v (few v z))) ts (g .sums) in
+      let e = g .few-cells in
+      let f = g .few-sums in
+      simp (length-append, length-append) (omega arith)
+
+  one-cell :
+      (before : List Interval) (I : Interval) (later : List Interval) (read rest : List ℕ) (n : ℕ) → cs ≡ before ++ (I ∷ later) → text ≡ read ++ (cellText w I ++ (feed ∷ rest)) → 0 < length read →
+      readFrom (suc n) text (after read w (length before) 0) (built w m before [])
+      ≡ readFrom n text (after (read ++ (cellText w I ++ (feed ∷ []))) w (length (before ++ (I ∷ []))) 0) (built w m (before ++ (I ∷ [])) [])
+  unfolding readFrom
+  one-cell before I later read rest n e t p =
+      let f = rw e at (g .cells) in
+      let z = faultless-next (cellFault w) before I later f in
+      let k : length before < 64 = omega (arith, g .few-cells, ap length e ∙ length-append before (I ∷ later)) in
+      let q : Sound w m before [] = record { head = g .head; few-cells = omega arith; few-sums = omega arith; cells = faultless-front (cellFault w) before (I ∷ later) f; sums = tt } in
+      rw (cell-next text read rest w (length before) 0 fits p I t z k, add-cell w m before [] q I z k, length-more before I)
+
+  one-sum :
+      (before : List Record) (r : Record) (later : List Record) (read rest : List ℕ) (n : ℕ) → ts ≡ before ++ (r ∷ later) → text ≡ read ++ (sumText r ++ (feed ∷ rest)) → 0 < length read →
+      readFrom (suc n) text (after read w (length cs) (length before)) (built w m cs before)
+      ≡ readFrom n text (after (read ++ (sumText r ++ (feed ∷ []))) w (length cs) (length (before ++ (r ∷ [])))) (built w m cs (before ++ (r ∷ [])))
+  unfolding readFrom
+  one-sum before r later read rest n e t p =
+      let f = rw e at (g .sums) in
+      let z = faultless-next (sumFault (length cs)) before r later f in
+      let k : length before < 128 = omega (arith, g .few-sums, ap length e ∙ length-append before (r ∷ later)) in
+      let q : Sound w m cs before = record { head = g .head; few-cells = g .few-cells; few-sums = omega arith; cells = g .cells; sums = faultless-front (sumFault (length cs)) before (r ∷ later) f } in
+      rw (sum-next text read rest w (length cs) (length before) fits p r t (few r z) z k, add-sum w m cs before q r z k, length-more before r)
+
+  -- the steps after the head: a record each, and the end
+  abbrev spare : ℕ
+  spare = length text - (length cs + length ts + 1)
+
+  steps : length text ≡ length cs + (length ts + suc spare)
+  steps =
+      let a = lines-long (cellText w) cs in
+      let b = lines-long sumText ts in
+      let c : length text ≡ length (headText w m) + suc (length (textLines (cellText w) cs) + length (textLines sumText ts)) = simp (length-append, length-append) in
+      omega arith
+
+  first : readFrom (suc (length text)) text start (blank 0 0) ≡ readFrom (length text) text (after headed w 0 0) (built w m [] [])
+  unfolding readFrom headText
+  first = rw (head-next (textLines (cellText w) cs ++ textLines sumText ts) w m fits (g .head), sym (opened w m (headFault w m) refl (g .head)))
+
+  last : readFrom (suc spare) text (after text w (length cs) (length ts)) (built w m cs ts) ≡ record { sheet = built w m cs ts; answer = Done }
+  unfolding readFrom
+  last = rw (end-next text w (length cs) (length ts) fits (omega (arith, steps)))
+
+  pub lists-back : readOf (textFor w m cs ts) ≡ record { sheet = built w m cs ts; answer = Done }
+  unfolding readOf
+  lists-back =
+      let cells = textLines (cellText w) cs in
+      let sums = textLines sumText ts in
+      let p : 0 < length headed = simp length-append (omega arith) in
+      let q : 0 < length (headed ++ cells) = simp (length-append, length-append) (omega arith) in
+      let a : text ≡ headed ++ (cells ++ sums) = sym (append-assoc (headText w m) (feed ∷ []) (cells ++ sums)) in
+      let b : (headed ++ cells) ++ sums ≡ text = append-assoc headed cells sums ∙ sym a in
+      let c : text ≡ (headed ++ cells) ++ (sums ++ []) = sym b ∙ rw (append-nil sums) in
+      first
+      ∙ ap (λ (n : ℕ). readFrom n text (after headed w 0 0) (built w m [] [])) steps
+      ∙ walk (cellText w) text cs (λ r l. after r w (length l) 0) (λ l. built w m l []) one-cell [] cs headed sums (length ts + suc spare) refl a p
+      ∙ walk sumText text ts (λ r l. after r w (length cs) (length l)) (λ l. built w m cs l) one-sum [] ts (headed ++ cells) [] (suc spare) refl c q
+      ∙ ap (λ (r : List ℕ). readFrom (suc spare) text (after r w (length cs) (length ts)) (built w m cs ts)) b
+      ∙ last
+
+-- ---- a kept sheet that its own test lets pass reads back in its written form, each end in its one pattern and unused places zero
+pub round-trip : (s : Sheet) → length (s .cells) ≡ 64 → length (s .sums) ≡ 128 → testOf s ≡ Done → readOf (textOf s) ≡ record { sheet = tidied s; answer = Done }
+unfolding textOf tidied
+round-trip s a b t =
+    let p = passed (s .width) (s .limit) (s .«cell_count») (s .«sum_count») (usedCells s) (usedSums s) t in
+    let c : length (usedCells s) ≡ s .«cell_count» = length-take-le (s .«cell_count») (s .cells) (omega (arith, p .few-cells)) in
+    let d : length (usedSums s) ≡ s .«sum_count» = length-take-le (s .«sum_count») (s .sums) (omega (arith, p .few-sums)) in
+    let g : Sound (s .width) (s .limit) (usedCells s) (usedSums s) = record {
+      head = p .head;
+      few-cells = omega (arith, p .few-cells);
+      few-sums = omega (arith, p .few-sums);
+      cells = faultless-list (cellFault (s .width)) noCell 0 (usedCells s) (p .cells-good);
+      sums = rw c (faultless-list (sumFault (s .«cell_count»)) noSum 0 (usedSums s) (p .sums-good));
+    } in
+    lists-back (s .width) (s .limit) (usedCells s) (usedSums s) g ∙ rw (c, d)

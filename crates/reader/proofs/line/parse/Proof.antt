@@ -1,0 +1,80 @@
+-- `reader::line::parse` meets its contract. Assumes nothing.
+use Rattle.reader.specs.Lines.{lineOf}
+use borrow.Author.Tests.{eq-eqb, ne-eqb}
+use borrow.Author.Needs.{needs}
+use Rattle.reader.proofs.line.parse.Statement.{statement}
+use Rattle.reader.proofs.line.parse.Tie as tie
+
+until-requires : tie.Need-until-requires
+until-requires c κs = search needs
+
+past-requires : tie.Need-past-requires
+past-requires c κs = search needs
+
+slice-aggregate-same : tie.Need-slice-aggregate-same
+slice-aggregate-same c = search needs
+
+same-requires : tie.Need-same-requires
+same-requires c κs = search needs
+
+head-in-requires : tie.Need-head-in-requires
+head-in-requires c κs = search needs
+
+returns : tie.Need-returns
+unfolding lineOf
+returns c = rw (eq-eqb _ _ (c .before .before .before .before .if1 .taken), ← c .before .before .before .before .before .before .until .ensures, ← c .before .before .same .ensures, c .before .if2 .taken, ← c .before .before .before .before .before .past .ensures) (c .head-in .ensures)
+
+returns-2 : tie.Need-returns-2
+unfolding lineOf
+returns-2 c = rw (eq-eqb _ _ (c .before .before .before .if1 .taken), ← c .before .before .before .before .before .until .ensures, ← c .before .same .ensures, c .if2 .left)
+
+slice-aggregate-same-2 : tie.Need-slice-aggregate-same-2
+slice-aggregate-same-2 c = search needs
+
+same-requires-2 : tie.Need-same-requires-2
+same-requires-2 c κs = search needs
+
+cell-in-requires : tie.Need-cell-in-requires
+cell-in-requires c κs = search needs
+
+returns-3 : tie.Need-returns-3
+unfolding lineOf
+returns-3 c = rw (ne-eqb _ _ (c .before .before .before .before .if1 .left), ← c .before .before .before .before .before .before .until .ensures, ← c .before .before .same2 .ensures, c .before .if3 .taken, ← c .before .before .before .before .before .past .ensures) (c .cell-in .ensures)
+
+slice-aggregate-same-3 : tie.Need-slice-aggregate-same-3
+slice-aggregate-same-3 c = search needs
+
+same-requires-3 : tie.Need-same-requires-3
+same-requires-3 c κs = search needs
+
+sum-in-requires : tie.Need-sum-in-requires
+sum-in-requires c κs = search needs
+
+returns-4 : tie.Need-returns-4
+unfolding lineOf
+returns-4 c = rw (ne-eqb _ _ (c .before .before .before .before .before .before .before .if1 .left), ← c .before .before .before .before .before .before .before .before .before .until .ensures, ← c .before .before .before .before .before .same2 .ensures, c .before .before .before .before .if3 .left, ← c .before .before .same3 .ensures, c .before .if4 .taken, ← c .before .before .before .before .before .before .before .before .past .ensures) (c .sum-in .ensures)
+
+returns-5 : tie.Need-returns-5
+unfolding lineOf
+returns-5 c = rw (ne-eqb _ _ (c .before .before .before .before .before .before .if1 .left), ← c .before .before .before .before .before .before .before .before .until .ensures, ← c .before .before .before .before .same2 .ensures, c .before .before .before .if3 .left, ← c .before .same3 .ensures, c .if4 .left)
+
+pub parse-spec : {M : Type 1} → statement M
+parse-spec =
+    tie.close
+    (tie.spec
+    until-requires
+    past-requires
+    slice-aggregate-same
+    same-requires
+    head-in-requires
+    returns
+    returns-2
+    slice-aggregate-same-2
+    same-requires-2
+    cell-in-requires
+    returns-3
+    slice-aggregate-same-3
+    same-requires-3
+    sum-in-requires
+    returns-4
+    returns-5)

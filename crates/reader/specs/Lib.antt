@@ -1,0 +1,7 @@
+pub mod Bytes
+pub mod Numbers
+pub mod Digits
+pub mod Lines
+pub mod Steps
+pub mod Readings
+pub mod Texts

@@ -1,0 +1,75 @@
+-- What 01's reader gives at a cursor: the record there, the end of the text, or a refusal with its line. Assumes nothing.
+use Prim.Native.Nat.{ℕ, _+_}
+use mathlib.Core.Bool.{cond}
+use mathlib.Core.List.{List, []}
+use lib.ListN.{length, take, drop}
+use lib.Dec.{eqb, ltb, leb}
+use Rattle.arith.specs.declared.interval.Interval.{Interval}
+use Rattle.sheet.specs.declared.kept.Record.{Record}
+use Rattle.sheet.specs.Faults.{headFault, cellFault, sumFault}
+use Rattle.reader.specs.Bytes.{indexOf, before, countOf}
+use Rattle.reader.specs.Lines.{feed, lineOf}
+use Rattle.reader.specs.declared.line.Line.{Line}
+use Rattle.reader.specs.declared.line.Line.the-variants as Line
+use Rattle.reader.specs.declared.cursor.Cursor.{Cursor}
+use Rattle.reader.specs.declared.cursor.Step.{Step}
+use Rattle.reader.specs.declared.cursor.Step.the-variants.{Head, Cell, Sum, End, Refused}
+
+-- the cursor at the start of a text
+abbrev pub start : Cursor
+start = record { at = 0; width = 0; «cell_count» = 0; «sum_count» = 0 }
+
+-- a refusal, with the line as its place
+abbrev pub refusedAt : ℕ → ℕ → Step
+refusedAt n line = Refused (record { number = n; place = line })
+
+-- ---- a record whose line is well formed; `next` is the position after it
+-- a head, in the order of opening: 1, 7. Cells and sums are counted from it on
+unfoldable pub headStep : ℕ → ℕ → ℕ → ℕ → Step
+headStep w m line next =
+    cond (eqb (headFault w m) 0)
+    (Head w m (record { at = next; width = w; «cell_count» = 0; «sum_count» = 0 }))
+    (refusedAt (headFault w m) line)
+
+-- a cell, in the order of adding: 2, 3, 10
+unfoldable pub cellStep : Interval → ℕ → ℕ → Cursor → Step
+cellStep I line next c =
+    cond (eqb (cellFault (c .width) I) 0)
+    (cond (leb 64 (c .«cell_count»)) (refusedAt 10 line)
+    (Cell I (record { at = next; width = c .width; «cell_count» = c .«cell_count» + 1; «sum_count» = c .«sum_count» })))
+    (refusedAt (cellFault (c .width) I) line)
+
+-- a sum, in the order of adding: 5, 6, 10
+unfoldable pub sumStep : Record → ℕ → ℕ → Cursor → Step
+sumStep s line next c =
+    cond (eqb (sumFault (c .«cell_count») s) 0)
+    (cond (leb 128 (c .«sum_count»)) (refusedAt 10 line)
+    (Sum s (record { at = next; width = c .width; «cell_count» = c .«cell_count»; «sum_count» = c .«sum_count» + 1 })))
+    (refusedAt (sumFault (c .«cell_count») s) line)
+
+-- ---- a line: 4, and after it the refusals of its record
+unfoldable pub admitted : Line → ℕ → ℕ → Cursor → Step
+admitted (Line.Head w m) line next c = headStep w m line next
+admitted (Line.Cell I) line next c = cellStep I line next c
+admitted (Line.Sum s) line next c = sumStep s line next c
+admitted Line.Malformed line next c = refusedAt 4 line
+
+-- ---- a text
+-- the number of the line at a position, from 1
+unfoldable pub lineNumber : List ℕ → ℕ → ℕ
+lineNumber text at = countOf feed (take at text) + 1
+
+-- with `ahead` still to be read: a line, or where no line feed is left, the end, which a text without a head has not
+abbrev pub stepAt : List ℕ → ℕ → Cursor → Step
+stepAt ahead line c =
+    cond (ltb (indexOf feed ahead) (length ahead))
+    (admitted (lineOf (c .at) (c .width) (before feed ahead)) line (c .at + indexOf feed ahead + 1) c)
+    (cond (eqb (length ahead) 0) (cond (eqb (c .at) 0) (refusedAt 4 line) End) (refusedAt 4 line))
+
+-- what stands at the cursor: 8, then the line there
+unfoldable pub nextOf : List ℕ → Cursor → Step
+nextOf text c = cond (ltb 8192 (length text)) (refusedAt 8 0) (stepAt (drop (c .at) text) (lineNumber text (c .at)) c)
+
+-- the part of the text that the record at the cursor occupies, without its line feed; empty for refusal 8
+unfoldable pub recordAt : List ℕ → Cursor → List ℕ
+recordAt text c = cond (ltb 8192 (length text)) [] (before feed (drop (c .at) text))

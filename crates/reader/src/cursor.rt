@@ -1,0 +1,187 @@
+// The cursor: a position in a text with what the reader keeps, and the record that stands there.
+ghost use mathlib.Core.Path.{_≡_};
+ghost use Prim.Native.Nat.{_≤_};
+ghost use lib.ListN.{length};
+ghost use Rattle.reader.specs.Steps.{start, refusedAt, headStep, cellStep, sumStep, admitted, lineNumber, nextOf, recordAt};
+use crate::bytes::count;
+use crate::bytes::find;
+use crate::bytes::front;
+use crate::bytes::rest;
+use crate::bytes::until;
+use crate::line::Line;
+use crate::line::parse;
+use arith::interval::Interval;
+use arith::refusal::Refusal;
+use sheet::fault::cell_fault;
+use sheet::fault::head_fault;
+use sheet::fault::sum_fault;
+use sheet::kept::Record;
+
+// Where the next record stands, the width that the head gave, and the counts of cells and sums so far.
+pub struct Cursor {
+    pub at: usize,
+    pub width: u64,
+    pub cell_count: u64,
+    pub sum_count: u64,
+}
+
+// What stands at a cursor: a record with the cursor after it, the end of the text, or a refusal.
+pub enum Step {
+    Head {
+        width: u64,
+        limit: u64,
+        next: Cursor,
+    },
+    Cell {
+        cell: Interval,
+        next: Cursor,
+    },
+    Sum {
+        sum: Record,
+        next: Cursor,
+    },
+    End,
+    Refused(Refusal),
+}
+
+impl Cursor {
+    // The cursor at the start of a text.
+    pub fn new() -> Self
+        ensures { λ r. ⌜ r ≡ start ⌝ }
+    {
+        Cursor {
+            at: 0,
+            width: 0,
+            cell_count: 0,
+            sum_count: 0,
+        }
+    }
+}
+
+fn refuse_at(number: u64, line: u64) -> Step
+    ensures { λ r. ⌜ r ≡ refusedAt number line ⌝ }
+{
+    Step::Refused(Refusal {
+        number,
+        place: line,
+    })
+}
+
+// A head, in the order of opening: refusals 1, 7.
+fn head_step(width: u64, limit: u64, line: u64, next: usize) -> Step
+    ensures { λ r. ⌜ r ≡ headStep width limit line next ⌝ }
+{
+    let fault = head_fault(width, limit);
+    if fault != 0 {
+        return refuse_at(fault, line);
+    }
+    Step::Head {
+        width,
+        limit,
+        next: Cursor {
+            at: next,
+            width,
+            cell_count: 0,
+            sum_count: 0,
+        },
+    }
+}
+
+// A cell, in the order of adding: refusals 2, 3, 10.
+fn cell_step(cell: Interval, line: u64, next: usize, c: Cursor) -> Step
+    ensures { λ r. ⌜ r ≡ cellStep cell line next c ⌝ }
+{
+    let fault = cell_fault(c.width, cell);
+    if fault != 0 {
+        return refuse_at(fault, line);
+    }
+    if 64 <= c.cell_count {
+        return refuse_at(10, line);
+    }
+    Step::Cell {
+        cell,
+        next: Cursor {
+            at: next,
+            width: c.width,
+            cell_count: c.cell_count + 1,
+            sum_count: c.sum_count,
+        },
+    }
+}
+
+// A sum, in the order of adding: refusals 5, 6, 10.
+fn sum_step(sum: Record, line: u64, next: usize, c: Cursor) -> Step
+    ensures { λ r. ⌜ r ≡ sumStep sum line next c ⌝ }
+{
+    let fault = sum_fault(c.cell_count, sum);
+    if fault != 0 {
+        return refuse_at(fault, line);
+    }
+    if 128 <= c.sum_count {
+        return refuse_at(10, line);
+    }
+    Step::Sum {
+        sum,
+        next: Cursor {
+            at: next,
+            width: c.width,
+            cell_count: c.cell_count,
+            sum_count: c.sum_count + 1,
+        },
+    }
+}
+
+// What a line gives at a cursor: refusal 4, and after it those of its record.
+fn admit(l: Line, line: u64, next: usize, c: Cursor) -> Step
+    ensures { λ r. ⌜ r ≡ admitted l line next c ⌝ }
+{
+    match l {
+        Line::Head { width, limit } => head_step(width, limit, line, next),
+        Line::Cell(cell) => cell_step(cell, line, next, c),
+        Line::Sum(sum) => sum_step(sum, line, next, c),
+        Line::Malformed => refuse_at(4, line),
+    }
+}
+
+// The number of the line at a position.
+fn line_at(text: &[u8], at: usize) -> u64
+    requires { ⌜ length (now text) ≤ 8192 ⌝ }
+    ensures { λ r. ⌜ r ≡ lineNumber (now (text .entry)) at ⌝ }
+{
+    count(front(text, at), 10) as u64 + 1
+}
+
+// The record at the cursor, or the refusal due there. A refusal leaves the cursor where it is.
+pub fn next(text: &[u8], c: Cursor) -> Step
+    ensures { λ r. ⌜ r ≡ nextOf (now (text .entry)) c ⌝ }
+{
+    if 8192 < text.len() {
+        return refuse_at(8, 0);
+    }
+    let at = c.at;
+    let ahead = rest(text, at);
+    let line = line_at(text, at);
+    let n = find(ahead, 10);
+    if n < ahead.len() {
+        let l = parse(at, c.width, &ahead[..n]);
+        return admit(l, line, at + n + 1, c);
+    }
+    if ahead.len() != 0 {
+        return refuse_at(4, line);
+    }
+    if at == 0 {
+        return refuse_at(4, line);
+    }
+    Step::End
+}
+
+// The part of the text that the record at the cursor occupies, without its line feed. It is empty for refusal 8 and for empty text.
+pub fn record_at(text: &[u8], c: Cursor) -> &[u8]
+    ensures { λ r. ⌜ now r ≡ recordAt (now (text .entry)) c ⌝ }
+{
+    if 8192 < text.len() {
+        return &text[..0];
+    }
+    let at = c.at;
+    until(rest(text, at), 10)
+}

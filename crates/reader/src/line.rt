@@ -1,0 +1,108 @@
+// One line of a text, without its line feed: what its fields say, or that it is malformed, unknown or misplaced.
+ghost use mathlib.Core.Path.{_≡_};
+ghost use Rattle.reader.specs.Lines.{headFrom, cellFrom, sumFrom, headIn, cellIn, sumIn, lineOf};
+use crate::bytes::past;
+use crate::bytes::same;
+use crate::bytes::until;
+use crate::number::Number;
+use crate::number::numeral;
+use crate::number::pattern;
+use arith::interval::Interval;
+use sheet::kept::Record;
+
+// What a line says.
+pub(crate) enum Line {
+    Head { width: u64, limit: u64 },
+    Cell(Interval),
+    Sum(Record),
+    Malformed,
+}
+
+fn head_from(w: Number, m: Number) -> Line
+    ensures { λ r. ⌜ r ≡ headFrom w m ⌝ }
+{
+    let Number::Value(width) = w else {
+        return Line::Malformed;
+    };
+    let Number::Value(limit) = m else {
+        return Line::Malformed;
+    };
+    Line::Head { width, limit }
+}
+
+fn cell_from(l: Number, h: Number) -> Line
+    ensures { λ r. ⌜ r ≡ cellFrom l h ⌝ }
+{
+    let Number::Value(low) = l else {
+        return Line::Malformed;
+    };
+    let Number::Value(high) = h else {
+        return Line::Malformed;
+    };
+    Line::Cell(Interval { low, high })
+}
+
+fn sum_from(i: Number, j: Number, k: Number) -> Line
+    ensures { λ r. ⌜ r ≡ sumFrom i j k ⌝ }
+{
+    let Number::Value(x) = i else {
+        return Line::Malformed;
+    };
+    let Number::Value(a) = j else {
+        return Line::Malformed;
+    };
+    let Number::Value(b) = k else {
+        return Line::Malformed;
+    };
+    Line::Sum(Record { x, a, b })
+}
+
+// The fields after the word `sheet`.
+fn head_in(fields: &[u8]) -> Line
+    ensures { λ r. ⌜ r ≡ headIn (now (fields .entry)) ⌝ }
+{
+    let width = numeral(until(fields, 9));
+    let limit = numeral(past(fields, 9));
+    head_from(width, limit)
+}
+
+// The fields after the word `cell`.
+fn cell_in(width: u64, fields: &[u8]) -> Line
+    ensures { λ r. ⌜ r ≡ cellIn width (now (fields .entry)) ⌝ }
+{
+    let low = pattern(width, until(fields, 9));
+    let high = pattern(width, past(fields, 9));
+    cell_from(low, high)
+}
+
+// The fields after the word `sum`.
+fn sum_in(fields: &[u8]) -> Line
+    ensures { λ r. ⌜ r ≡ sumIn (now (fields .entry)) ⌝ }
+{
+    let more = past(fields, 9);
+    let x = numeral(until(fields, 9));
+    let a = numeral(until(more, 9));
+    let b = numeral(past(more, 9));
+    sum_from(x, a, b)
+}
+
+// A line by its first field: a head at the start of the text, a cell or a sum anywhere else.
+pub(crate) fn parse(at: usize, width: u64, line: &[u8]) -> Line
+    ensures { λ r. ⌜ r ≡ lineOf at width (now (line .entry)) ⌝ }
+{
+    let word = until(line, 9);
+    let fields = past(line, 9);
+    if at == 0 {
+        if same(word, b"sheet") {
+            return head_in(fields);
+        }
+        return Line::Malformed;
+    }
+    if same(word, b"cell") {
+        return cell_in(width, fields);
+    }
+    if same(word, b"sum") {
+        return sum_in(fields);
+    }
+    Line::Malformed
+}
