@@ -40,8 +40,8 @@ pub(crate) fn extent_x(format: Format, x: Range, a: Range, b: Range) -> Extent
     })
 }
 
-// The least b in a triple: the sum of the least x with its a bounds it from above; what is below is asked again.
-fn least_b(format: Format, x: Range, a: Range, b: Range) -> Found
+// The least b in a triple by search: the sum of the least x with its a bounds it from above; what is below is asked again.
+fn search_b(format: Format, x: Range, a: Range, b: Range) -> Found
     requires { ⌜ (Sound format) × (Ends format x) × (Ends format a) × (Ends format b) ⌝ }
     ensures { λ r. ⌜ LeastOf (HasB format x a b) r ⌝ }
 {
@@ -50,25 +50,58 @@ fn least_b(format: Format, x: Range, a: Range, b: Range) -> Found
     };
     let mut low = b.low;
     let mut high = sum_of(format, p, q);
-    let mut first = true;
+    let mut near = true;
     while low < high {
-        let middle = if first {
+        let middle = if near {
             high - 1
         } else {
             low + (high - low) / 2
         };
+        near = !near;
         match least_x(format, x, a, Range { low, high: middle }) {
             Pair::At { x: p, a: q } => high = sum_of(format, p, q),
             Pair::Absent => low = middle + 1,
         }
-        first = false;
     }
     Found::At(high)
 }
 
+// The least b in a triple: b's low end, if it stands in one.
+fn seek_b(format: Format, x: Range, a: Range, b: Range) -> Found
+    requires { ⌜ (Sound format) × (Ends format x) × (Ends format a) × (Ends format b) ⌝ }
+    ensures { λ r. ⌜ LeastOf (HasB format x a b) r ⌝ }
+{
+    if b.high < b.low {
+        return Found::Absent;
+    }
+    let lowest = Range {
+        low: b.low,
+        high: b.low,
+    };
+    match least_x(format, x, a, lowest) {
+        Pair::At { x: _, a: _ } => Found::At(b.low),
+        Pair::Absent => search_b(format, x, a, b),
+    }
+}
+
+// The least b in a triple: the sum of the low ends where b's low end is no higher.
+fn least_b(format: Format, x: Range, a: Range, b: Range) -> Found
+    requires { ⌜ (Sound format) × (Ends format x) × (Ends format a) × (Ends format b) × (x .low ≤ x .high) × (a .low ≤ a .high) ⌝ }
+    ensures { λ r. ⌜ LeastOf (HasB format x a b) r ⌝ }
+{
+    let least = sum_of(format, x.low, a.low);
+    if least < b.low {
+        return seek_b(format, x, a, b);
+    }
+    if b.high < least {
+        return Found::Absent;
+    }
+    Found::At(least)
+}
+
 // The b in a triple.
 pub(crate) fn extent_b(format: Format, x: Range, a: Range, b: Range) -> Extent
-    requires { ⌜ (Sound format) × (Ends format x) × (Ends format a) × (Ends format b) ⌝ }
+    requires { ⌜ (Sound format) × (Ends format x) × (Ends format a) × (Ends format b) × (x .low ≤ x .high) × (a .low ≤ a .high) ⌝ }
     ensures { λ r. ⌜ ExtentOf (HasB format x a b) r ⌝ }
 {
     let Found::At(low) = least_b(format, x, a, b) else {

@@ -7,6 +7,8 @@ use crate::format::Format;
 use crate::range::Range;
 use crate::range::mirror_of;
 use crate::sum::sum_of;
+use crate::words::shift_left;
+use crate::words::shift_right;
 
 // The least number asked for, or that there is none.
 pub(crate) enum Found {
@@ -14,11 +16,51 @@ pub(crate) enum Found {
     Absent,
 }
 
-// Where the least operand is likely: b less a.
+// Half the distance from b to the float below it, below zero; zero where that is less than a unit.
+fn half_gap(format: Format, b: u64) -> u64
+    requires { ⌜ (Sound format) × (Finite format b) ⌝ }
+    ensures { λ r. ⌜ Finite format r ⌝ }
+{
+    let zero = format.sign;
+    let fraction = format.fraction;
+    let nearer = if zero < b { b - zero - 1 } else { zero - b };
+    let field = shift_right(nearer, fraction);
+    if field < 2 {
+        return zero;
+    }
+    let power = field - 2;
+    if power <= fraction {
+        return zero - shift_left(1, power);
+    }
+    zero - shift_left(power + 1 - fraction, fraction)
+}
+
+// The midpoint of b and the float below it, less a.
 fn guess(format: Format, a: u64, b: u64) -> u64
     requires { ⌜ (Sound format) × (Finite format a) × (Finite format b) ⌝ }
 {
-    sum_of(format, b, mirror_of(format, a))
+    let d = sum_of(format, b, mirror_of(format, a));
+    if format.sign + format.infinity <= d {
+        return d;
+    }
+    if d <= format.sign - format.infinity {
+        return d;
+    }
+    sum_of(format, d, half_gap(format, b))
+}
+
+// Where the least operand of a range is likely: the guess, or the end next to it.
+fn start(format: Format, a: u64, b: u64, r: Range) -> u64
+    requires { ⌜ (Sound format) × (Finite format a) × (Finite format b) ⌝ }
+{
+    let at = guess(format, a, b);
+    if at < r.low {
+        return r.low;
+    }
+    if r.high <= at {
+        return std::num::wrapping_sub_u64(r.high, 1);
+    }
+    at
 }
 
 // The next place to look at from low up to, and without, high: at, if it is one of them, else the middle.
@@ -41,7 +83,7 @@ fn search_operand(format: Format, a: u64, b: u64, r: Range) -> u64
 {
     let mut low = r.low;
     let mut high = r.high;
-    let mut at = guess(format, a, b);
+    let mut at = start(format, a, b, r);
     let mut stride: u64 = 1;
     while low < high {
         let p = probe(low, high, at);

@@ -9,6 +9,7 @@ use Rattle.ladder.specs.Solution.{Interval}
 use Rattle.ladder.specs.Narrowing.{HasX, HasB}
 use Rattle.ladder.specs.Search.{Never, Least, Bracket, Leading}
 use Rattle.ladder.proofs.Cases.{le-or-lt}
+use Rattle.ladder.proofs.Sum.{sum-mono}
 use Rattle.ladder.proofs.Extremes.{bracket-lower, bracket-raise, bracket-least}
 
 pub leading-least : {f e : ℕ} {X A B : Interval} {x a : ℕ} → Leading f e X A B x a → Least (HasX f e X A B) x
@@ -59,3 +60,28 @@ module _ (f e : ℕ) (X A : Interval) where
           | inr n ↦ omega arith
         ];
       }
+
+-- ---- a triple at the low end of b
+pub low-least : (f e : ℕ) (X A B : Interval) (x a : ℕ) → B .low ≤ B .high → Leading f e X A (record { low = B .low; high = B .low }) x a → Least (HasB f e X A B) (B .low)
+low-least f e X A B x a o l =
+    let r = l .solution in
+    let i = r .b-in in
+    record { holds = record { x = x; a = a; solution = record { x-in = r .x-in; a-in = r .a-in; b-in = record { low = le-refl (B .low); high = o }; is = omega arith } }; least = λ y w. w .solution .b-in .low }
+
+-- ---- the sum t of the low ends of x and a is no larger than any other
+module _ (f e : ℕ) (some : 1 ≤ f) (X A B : Interval) (t : ℕ) (is : t ≡ sum f e (X .low) (A .low)) where
+  pub corner-le : (y : ℕ) → HasB f e X A B y → t ≤ y
+  corner-le y w = let r = w .solution in omega (arith, sum-mono f e some (X .low) (w .x) (A .low) (w .a) (r .x-in .low) (r .a-in .low), r .is)
+
+  pub corner-least : X .low ≤ X .high → A .low ≤ A .high → B .low ≤ t → t ≤ B .high → Least (HasB f e X A B) t
+  corner-least p q l h = record {
+    holds = record {
+      x = X .low;
+      a = A .low;
+      solution = record { x-in = record { low = le-refl (X .low); high = p }; a-in = record { low = le-refl (A .low); high = q }; b-in = record { low = l; high = h }; is = sym is };
+    };
+    least = corner-le;
+  }
+
+  pub corner-never : B .high < t → Never (HasB f e X A B)
+  corner-never h y w = omega (arith, corner-le y w, w .solution .b-in .high)

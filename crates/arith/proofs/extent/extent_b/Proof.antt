@@ -1,4 +1,5 @@
 -- `arith::extent::extent_b` meets its contract: the greatest b is read off in the mirror. Assumes nothing.
+use native.Mathlib.Omega.{arith}
 use borrow.Author.Needs.{needs}
 use Rattle.ladder.proofs.Extremes.{spans-of}
 use Rattle.ladder.proofs.Solutions.{mirror-b-greatest, mirror-b-never, finite-in, mirror-bounded}
@@ -35,7 +36,7 @@ least-b-requires-2 : tie.Need-least-b-requires-2
 least-b-requires-2 c κs =
     let z = c .before .before .before .before .before .before .before in
     let F = z .args .format in
-    (z .pre .0, reflected-ends F _ _ (c .before .before .reflect .ensures) (z .pre .1), reflected-ends F _ _ (c .before .reflect2 .ensures) (z .pre .2), reflected-ends F _ _ (c .reflect3 .ensures) (z .pre .3))
+    (z .pre .0, reflected-ends F _ _ (c .before .before .reflect .ensures) (z .pre .1), reflected-ends F _ _ (c .before .reflect2 .ensures) (z .pre .2), reflected-ends F _ _ (c .reflect3 .ensures) (z .pre .3), rw (c .before .before .reflect .ensures) (omega arith), rw (c .before .reflect2 .ensures) (omega arith))
 
 enum-known-m : tie.Need-enum-known-m
 enum-known-m c = search needs

@@ -1,5 +1,6 @@
 -- `arith::narrow::narrow_ranges` meets its contract: the narrowing from its three parts. Assumes nothing.
 use borrow.Author.Needs.{needs}
+use Rattle.ladder.proofs.Extremes.{spans-order}
 use Rattle.ladder.proofs.Assembly.{never-x, never-a, never-b, assembled}
 use Rattle.arith.specs.declared.extent.Extent.the-variants.{Empty, Over}
 use Rattle.arith.specs.Searches.{span, ExtentOf, HasX, HasB}
@@ -50,7 +51,7 @@ extent-b-requires : tie.Need-extent-b-requires
 extent-b-requires c κs =
     let z = c .before .before .before .before .before .before .before .before in
     let F = z .args .format in
-    (z .pre .0, spans-ends F (z .args .x) (z .args .a) (z .args .b) _ (z .pre .1) (xs-are (c .before .before .before .before)), spans-ends F (z .args .a) (z .args .x) (z .args .b) _ (z .pre .2) (ys-are c), z .pre .3)
+    (z .pre .0, spans-ends F (z .args .x) (z .args .a) (z .args .b) _ (z .pre .1) (xs-are (c .before .before .before .before)), spans-ends F (z .args .a) (z .args .x) (z .args .b) _ (z .pre .2) (ys-are c), z .pre .3, spans-order (xs-are (c .before .before .before .before)), spans-order (ys-are c))
 
 enum-known-bs : tie.Need-enum-known-bs
 enum-known-bs c = search needs

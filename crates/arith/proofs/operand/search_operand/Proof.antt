@@ -17,8 +17,8 @@ Inv-loop format a b low₀ high₀ at₀ stride₀ low high at stride = (low₀ 
 abbrev μ-loop : tie.MeasureT-loop
 μ-loop format a b low₀ high₀ at₀ stride₀ low high at stride = high - low
 
-guess-requires : tie.Need-guess-requires Inv-loop μ-loop
-guess-requires c κs = search needs
+start-requires : tie.Need-start-requires Inv-loop μ-loop
+start-requires c κs = search needs
 
 loop-holds : tie.Need-loop-holds Inv-loop μ-loop
 loop-holds c = let z = c .before in (le-refl _, record { holds = z .pre .4; below = λ y t. t .inside .low })
@@ -70,7 +70,7 @@ search-operand-spec =
     (tie.spec
     Inv-loop
     μ-loop
-    guess-requires
+    start-requires
     loop-holds
     probe-requires
     sum-of-requires
