@@ -6,11 +6,9 @@ use Rattle.sheet.specs.Loading.{withCounts}
 use Rattle.sheet.proofs.lent.count_lists.Statement.{statement}
 use Rattle.sheet.proofs.lent.count_lists.Tie as tie
 
--- src/lent.rt:27:9
 blank-sheet-requires : tie.Need-blank-sheet-requires
 blank-sheet-requires c κs = search needs
 
--- src/lent.rt:24:1
 returns : tie.Need-returns
 returns c = ap (λ (s : Sheet). withCounts s (c .before .args .cell-count) (c .before .args .sum-count)) (c .blank-sheet .ensures)
 
