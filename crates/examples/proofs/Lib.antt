@@ -2,3 +2,4 @@ pub mod Starred
 pub mod Bounding
 pub mod Narrowings
 pub mod Sheets
+pub mod Listings

@@ -2,6 +2,7 @@
 use mathlib.Core.Path.{_≡_}
 use mathlib.Core.List.{List, [], _∷_}
 use Prim.Native.Nat.{ℕ}
+use Prim.Native.String.{String, _++_}
 use lib.ListN.{length}
 use Rattle.arith.specs.declared.sum.Sum.the-variants.{Is, Refused}
 use Rattle.arith.specs.declared.interval.Interval.{Interval}
@@ -15,6 +16,8 @@ use Rattle.sheet.specs.declared.kept.Sheet.{Sheet}
 use Rattle.sheet.specs.declared.passes.Outcome.the-variants.{Settled, NoTriple, Stopped}
 use Rattle.sheet.specs.Sheets.{noCell, noSum, filled}
 use Rattle.sheet.specs.Narrowings.{narrowSheetOf}
+use Rattle.listing.specs.Listings.{runOf, listingOf}
+use Rattle.examples.specs.Quoted.{bytes}
 
 -- ---- sums
 pub record Sums : Type 0 where
@@ -110,3 +113,24 @@ pub record Sheets : Type 0 where
   pub stops : narrowSheetOf (chase 5 chased) ≡ record { sheet = chase 5 (point 5 ∷ point 1 ∷ point 5 ∷ point 0 ∷ []); outcome = Stopped 5 }
   -- and the sixth finds no triple
   pub breaks : narrowSheetOf (chase 6 chased) ≡ record { sheet = chase 6 chased; outcome = NoTriple 6 0 }
+
+-- ---- listings
+-- what the program prints for a text
+abbrev pub prints : String → List ℕ
+prints text = listingOf (runOf (bytes text))
+
+-- the text of document 000's sheet
+abbrev pub text000 : String
+text000 = "sheet\t64\t10\ncell\tC630000000000000\tC330000000000000\ncell\t3FF0000000000000\t4630000000000000\ncell\t3FE0000000000000\t3FF8000000000000\nsum\t0\t1\t2\n"
+
+-- the text of the two sums, below its head
+abbrev pub chaseText : String
+chaseText = "cell\t0000000000000000\t000000000000000A\ncell\t0000000000000001\t0000000000000001\ncell\t0000000000000000\t000000000000000A\ncell\t0000000000000000\t0000000000000000\nsum\t0\t1\t2\nsum\t2\t3\t0\n"
+
+-- 01's texts and what is printed for them
+pub record Listings : Type 0 where
+  -- the whole listing
+  pub whole : prints text000 ≡ bytes "settled\t2\ncell\t0\tC33FFFFFFFFFFFFF\tC330000000000000\ncell\t1\t4330000000000001\t4340000000000000\ncell\t2\t3FF0000000000000\t3FF0000000000000\n"
+  -- the two sums with limit 5, and with limit 6
+  pub stops : prints ("sheet\t64\t5\n" ++ chaseText) ≡ bytes "stopped\t5\ncell\t0\t0000000000000005\t0000000000000005\ncell\t1\t0000000000000001\t0000000000000001\ncell\t2\t0000000000000005\t0000000000000005\ncell\t3\t0000000000000000\t0000000000000000\n"
+  pub breaks : prints ("sheet\t64\t6\n" ++ chaseText) ≡ bytes "none\t6\t0\n"
