@@ -1,7 +1,6 @@
 -- What the functions below the narrowing answer: each answer's enum goes over into what `ladder` says of it. Assumes nothing.
-use mathlib.Core.Path.{_≡_}
-use Prim.Native.Nat.{ℕ, _≤_, _<_}
-use Rattle.ladder.specs.Solution.{Interval, In, Solution}
+use Prim.Native.Nat.{ℕ, _<_}
+use Rattle.ladder.specs.Solution.{Interval}
 use Rattle.ladder.specs.Narrowing as N
 use Rattle.ladder.specs.Narrowing.{Narrowing, none, ends}
 use Rattle.ladder.specs.Search as S

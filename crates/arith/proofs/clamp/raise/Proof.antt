@@ -9,7 +9,7 @@ use Rattle.arith.proofs.clamp.raise.Statement.{statement}
 use Rattle.arith.proofs.clamp.raise.Tie as tie
 
 shift-right-requires : tie.Need-shift-right-requires
-shift-right-requires c κs = search needs
+shift-right-requires c κs = tt
 
 returns : tie.Need-returns
 returns c =

@@ -6,7 +6,7 @@ use Rattle.arith.proofs.exact.decode.Statement.{statement}
 use Rattle.arith.proofs.exact.decode.Tie as tie
 
 shift-right-requires : tie.Need-shift-right-requires
-shift-right-requires c κs = search needs
+shift-right-requires c κs = tt
 
 returns : tie.Need-returns
 returns c = decode-low _ _ _ (c .before .shift-right .ensures) (c .if1 .taken)

@@ -5,10 +5,10 @@ use Rattle.arith.proofs.exact.exact_sum.Statement.{statement}
 use Rattle.arith.proofs.exact.exact_sum.Tie as tie
 
 distance-from-zero-requires : tie.Need-distance-from-zero-requires
-distance-from-zero-requires c κs = search needs
+distance-from-zero-requires c κs = tt
 
 distance-from-zero-requires-2 : tie.Need-distance-from-zero-requires-2
-distance-from-zero-requires-2 c κs = search needs
+distance-from-zero-requires-2 c κs = tt
 
 combine-requires : tie.Need-combine-requires
 combine-requires c κs = search needs

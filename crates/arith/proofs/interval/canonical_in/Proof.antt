@@ -12,7 +12,7 @@ ends-finite-requires : tie.Need-ends-finite-requires
 ends-finite-requires c κs = search needs
 
 refuse-requires : tie.Need-refuse-requires
-refuse-requires c κs = search needs
+refuse-requires c κs = tt
 
 returns : tie.Need-returns
 unfolding canonicalIn
@@ -24,10 +24,10 @@ range-of-requires : tie.Need-range-of-requires
 range-of-requires c κs = (c .before .before .pre, holds (c .before .ends-finite .ensures) (c .if1 .left))
 
 ordered-requires : tie.Need-ordered-requires
-ordered-requires c κs = search needs
+ordered-requires c κs = tt
 
 refuse-requires-2 : tie.Need-refuse-requires-2
-refuse-requires-2 c κs = search needs
+refuse-requires-2 c κs = tt
 
 returns-2 : tie.Need-returns-2
 unfolding canonicalIn

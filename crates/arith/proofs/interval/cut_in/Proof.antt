@@ -12,7 +12,7 @@ ends-finite-requires : tie.Need-ends-finite-requires
 ends-finite-requires c κs = search needs
 
 refuse-requires : tie.Need-refuse-requires
-refuse-requires c κs = search needs
+refuse-requires c κs = tt
 
 returns : tie.Need-returns
 unfolding cutIn
@@ -24,7 +24,7 @@ ends-finite-requires-2 : tie.Need-ends-finite-requires-2
 ends-finite-requires-2 c κs = search needs
 
 refuse-requires-2 : tie.Need-refuse-requires-2
-refuse-requires-2 c κs = search needs
+refuse-requires-2 c κs = tt
 
 returns-2 : tie.Need-returns-2
 unfolding cutIn
@@ -40,10 +40,10 @@ range-of-requires c κs =
     (s1 .before .before .pre, holds (s1 .before .ends-finite .ensures) (s1 .if1 .left))
 
 ordered-requires : tie.Need-ordered-requires
-ordered-requires c κs = search needs
+ordered-requires c κs = tt
 
 refuse-requires-3 : tie.Need-refuse-requires-3
-refuse-requires-3 c κs = search needs
+refuse-requires-3 c κs = tt
 
 returns-3 : tie.Need-returns-3
 unfolding cutIn
@@ -61,10 +61,10 @@ range-of-requires-2 c κs =
     (s2 .before .before .before .before .pre, holds (s2 .before .ends-finite2 .ensures) (s2 .if2 .left))
 
 ordered-requires-2 : tie.Need-ordered-requires-2
-ordered-requires-2 c κs = search needs
+ordered-requires-2 c κs = tt
 
 refuse-requires-4 : tie.Need-refuse-requires-4
-refuse-requires-4 c κs = search needs
+refuse-requires-4 c κs = tt
 
 returns-4 : tie.Need-returns-4
 unfolding cutIn
@@ -79,7 +79,7 @@ returns-4 c =
     (refused Cut.Refused 3 _ _ (c .refuse4 .ensures) (fails (t .before .ordered2 .ensures ∙ ap isOrdered (t .before .before .range-of2 .ensures)) (t .if4 .taken)))))
 
 shared-requires : tie.Need-shared-requires
-shared-requires c κs = search needs
+shared-requires c κs = tt
 
 shared-in-requires : tie.Need-shared-in-requires
 shared-in-requires c κs =

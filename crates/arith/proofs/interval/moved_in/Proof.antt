@@ -12,7 +12,7 @@ finite-ordinal-requires : tie.Need-finite-ordinal-requires
 finite-ordinal-requires c κs = search needs
 
 refuse-requires : tie.Need-refuse-requires
-refuse-requires c κs = search needs
+refuse-requires c κs = tt
 
 returns : tie.Need-returns
 unfolding movedIn
@@ -24,7 +24,7 @@ finite-ordinal-requires-2 : tie.Need-finite-ordinal-requires-2
 finite-ordinal-requires-2 c κs = search needs
 
 refuse-requires-2 : tie.Need-refuse-requires-2
-refuse-requires-2 c κs = search needs
+refuse-requires-2 c κs = tt
 
 returns-2 : tie.Need-returns-2
 unfolding movedIn

@@ -9,7 +9,7 @@ use Rattle.arith.proofs.interval.shared_in.Statement.{statement}
 use Rattle.arith.proofs.interval.shared_in.Tie as tie
 
 ordered-requires : tie.Need-ordered-requires
-ordered-requires c κs = search needs
+ordered-requires c κs = tt
 
 returns : tie.Need-returns
 unfolding sharedIn

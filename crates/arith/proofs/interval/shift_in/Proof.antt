@@ -14,7 +14,7 @@ ends-finite-requires : tie.Need-ends-finite-requires
 ends-finite-requires c κs = search needs
 
 refuse-requires : tie.Need-refuse-requires
-refuse-requires c κs = search needs
+refuse-requires c κs = tt
 
 returns : tie.Need-returns
 unfolding shiftIn
@@ -26,7 +26,7 @@ finite-requires : tie.Need-finite-requires
 finite-requires c κs = search needs
 
 refuse-requires-2 : tie.Need-refuse-requires-2
-refuse-requires-2 c κs = search needs
+refuse-requires-2 c κs = tt
 
 returns-2 : tie.Need-returns-2
 unfolding shiftIn
@@ -42,10 +42,10 @@ range-of-requires c κs =
     (s1 .before .before .pre, holds (s1 .before .ends-finite .ensures) (s1 .if1 .left))
 
 ordered-requires : tie.Need-ordered-requires
-ordered-requires c κs = search needs
+ordered-requires c κs = tt
 
 refuse-requires-3 : tie.Need-refuse-requires-3
-refuse-requires-3 c κs = search needs
+refuse-requires-3 c κs = tt
 
 returns-3 : tie.Need-returns-3
 unfolding shiftIn

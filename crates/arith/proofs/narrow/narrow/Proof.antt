@@ -1,6 +1,5 @@
 -- `arith::narrow::narrow` meets its contract: refusal 1, then the answer in the format. Assumes nothing.
 use mathlib.Core.Path.{sym, ap, _∙_, subst}
-use borrow.Author.Needs.{needs}
 use Rattle.arith.specs.declared.format.Format.{Format}
 use Rattle.arith.specs.declared.narrow.Narrowed.the-variants.{Refused}
 use Rattle.arith.specs.Formats.{Sound}
@@ -11,10 +10,10 @@ use Rattle.arith.proofs.narrow.narrow.Statement.{statement}
 use Rattle.arith.proofs.narrow.narrow.Tie as tie
 
 known-requires : tie.Need-known-requires
-known-requires c κs = search needs
+known-requires c κs = tt
 
 refuse-requires : tie.Need-refuse-requires
-refuse-requires c κs = search needs
+refuse-requires c κs = tt
 
 returns : tie.Need-returns
 unfolding narrowOf
@@ -23,7 +22,7 @@ returns c =
     refused Refused 1 _ _ (c .refuse .ensures) (fails (t .before .known .ensures) (t .if1 .taken))
 
 format-of-requires : tie.Need-format-of-requires
-format-of-requires c κs = search needs
+format-of-requires c κs = tt
 
 narrow-in-requires : tie.Need-narrow-in-requires
 narrow-in-requires c κs = subst Sound (sym (c .format-of .ensures)) (sound (c .before .before .before .args .width))

@@ -21,7 +21,7 @@ ends-finite-requires : tie.Need-ends-finite-requires
 ends-finite-requires c κs = search needs
 
 refuse-requires : tie.Need-refuse-requires
-refuse-requires c κs = search needs
+refuse-requires c κs = tt
 
 returns : tie.Need-returns
 unfolding narrowIn
@@ -33,7 +33,7 @@ ends-finite-requires-2 : tie.Need-ends-finite-requires-2
 ends-finite-requires-2 c κs = search needs
 
 refuse-requires-2 : tie.Need-refuse-requires-2
-refuse-requires-2 c κs = search needs
+refuse-requires-2 c κs = tt
 
 returns-2 : tie.Need-returns-2
 unfolding narrowIn
@@ -47,7 +47,7 @@ ends-finite-requires-3 : tie.Need-ends-finite-requires-3
 ends-finite-requires-3 c κs = search needs
 
 refuse-requires-3 : tie.Need-refuse-requires-3
-refuse-requires-3 c κs = search needs
+refuse-requires-3 c κs = tt
 
 returns-3 : tie.Need-returns-3
 unfolding narrowIn

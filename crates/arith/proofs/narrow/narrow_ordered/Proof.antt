@@ -7,10 +7,10 @@ use Rattle.arith.proofs.narrow.narrow_ordered.Statement.{statement}
 use Rattle.arith.proofs.narrow.narrow_ordered.Tie as tie
 
 ordered-requires : tie.Need-ordered-requires
-ordered-requires c κs = search needs
+ordered-requires c κs = tt
 
 refuse-requires : tie.Need-refuse-requires
-refuse-requires c κs = search needs
+refuse-requires c κs = tt
 
 returns : tie.Need-returns
 unfolding narrowOrdered
@@ -19,10 +19,10 @@ returns c =
     refused Refused 3 _ _ (c .refuse .ensures) (fails (t .before .ordered .ensures) (t .if1 .taken))
 
 ordered-requires-2 : tie.Need-ordered-requires-2
-ordered-requires-2 c κs = search needs
+ordered-requires-2 c κs = tt
 
 refuse-requires-2 : tie.Need-refuse-requires-2
-refuse-requires-2 c κs = search needs
+refuse-requires-2 c κs = tt
 
 returns-2 : tie.Need-returns-2
 unfolding narrowOrdered
@@ -33,10 +33,10 @@ returns-2 c =
     (refused Refused 3 _ _ (c .refuse2 .ensures) (fails (t .before .ordered2 .ensures) (t .if2 .taken)))
 
 ordered-requires-3 : tie.Need-ordered-requires-3
-ordered-requires-3 c κs = search needs
+ordered-requires-3 c κs = tt
 
 refuse-requires-3 : tie.Need-refuse-requires-3
-refuse-requires-3 c κs = search needs
+refuse-requires-3 c κs = tt
 
 returns-3 : tie.Need-returns-3
 unfolding narrowOrdered

@@ -36,7 +36,7 @@ sub-nearer-2 : tie.Need-sub-nearer-2
 sub-nearer-2 c = search needs
 
 shift-right-requires : tie.Need-shift-right-requires
-shift-right-requires c κs = search needs
+shift-right-requires c κs = tt
 
 returns : tie.Need-returns
 returns c = search needs

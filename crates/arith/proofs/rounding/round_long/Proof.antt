@@ -10,10 +10,10 @@ use Rattle.arith.proofs.rounding.round_long.Statement.{statement}
 use Rattle.arith.proofs.rounding.round_long.Tie as tie
 
 shift-right-requires : tie.Need-shift-right-requires
-shift-right-requires c κs = search needs
+shift-right-requires c κs = tt
 
 dropped-requires : tie.Need-dropped-requires
-dropped-requires c κs = search needs
+dropped-requires c κs = tt
 
 sub-shift-left : tie.Need-sub-shift-left
 sub-shift-left c = search needs

@@ -14,7 +14,7 @@ add-room : tie.Need-add-room
 add-room c = search needs
 
 digits-requires : tie.Need-digits-requires
-digits-requires c κs = search needs
+digits-requires c κs = tt
 
 sub-room : tie.Need-sub-room
 sub-room c = search needs

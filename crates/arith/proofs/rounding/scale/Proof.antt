@@ -27,7 +27,7 @@ sub-drop : tie.Need-sub-drop
 sub-drop c = search needs
 
 shift-right-requires : tie.Need-shift-right-requires
-shift-right-requires c κs = search needs
+shift-right-requires c κs = tt
 
 mul-jammed : tie.Need-mul-jammed
 mul-jammed c =
@@ -35,7 +35,7 @@ mul-jammed c =
     omega (arith, few (s .args .fraction) (s .args .t) (s .pre .0) (s .pre .1), shr-le (s .args .t .smaller) (s .args .t .gap - 3))
 
 sticky-requires : tie.Need-sticky-requires
-sticky-requires c κs = search needs
+sticky-requires c κs = tt
 
 add-jammed : tie.Need-add-jammed
 add-jammed c =

@@ -13,7 +13,7 @@ round-sum-requires : tie.Need-round-sum-requires
 round-sum-requires c κs = search needs
 
 refuse-requires : tie.Need-refuse-requires
-refuse-requires c κs = search needs
+refuse-requires c κs = tt
 
 returns : tie.Need-returns
 returns c =

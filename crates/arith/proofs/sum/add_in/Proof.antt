@@ -13,7 +13,7 @@ finite-requires : tie.Need-finite-requires
 finite-requires c κs = search needs
 
 refuse-requires : tie.Need-refuse-requires
-refuse-requires c κs = search needs
+refuse-requires c κs = tt
 
 returns : tie.Need-returns
 unfolding addIn
@@ -25,7 +25,7 @@ finite-requires-2 : tie.Need-finite-requires-2
 finite-requires-2 c κs = search needs
 
 refuse-requires-2 : tie.Need-refuse-requires-2
-refuse-requires-2 c κs = search needs
+refuse-requires-2 c κs = tt
 
 returns-2 : tie.Need-returns-2
 unfolding addIn
