@@ -9,3 +9,5 @@ pub mod Records
 pub mod Walking
 pub mod RoundTrip
 pub mod Tested
+pub mod Staying
+pub mod Held

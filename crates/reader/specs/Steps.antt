@@ -1,5 +1,5 @@
 -- What 01's reader gives at a cursor: the record there, the end of the text, or a refusal with its line. Assumes nothing.
-use Prim.Native.Nat.{ℕ, _+_}
+use Prim.Native.Nat.{ℕ, zero, suc, _+_}
 use mathlib.Core.Bool.{cond}
 use mathlib.Core.List.{List, []}
 use lib.ListN.{length, take, drop}
@@ -69,6 +69,23 @@ stepAt ahead line c =
 -- what stands at the cursor: 8, then the line there
 unfoldable pub nextOf : List ℕ → Cursor → Step
 nextOf text c = cond (ltb 8192 (length text)) (refusedAt 8 0) (stepAt (drop (c .at) text) (lineNumber text (c .at)) c)
+
+-- the cursor after a step: a refused record and the end are stayed at
+abbrev pub past : Step → Cursor → Cursor
+past (Head w m next) c = next
+past (Cell I next) c = next
+past (Sum t next) c = next
+past End c = c
+past (Refused r) c = c
+
+-- the cursor after the record at the cursor
+unfoldable pub afterOf : List ℕ → Cursor → Cursor
+afterOf text c = past (nextOf text c) c
+
+-- the cursor after the first n records
+unfoldable pub cursorAfter : ℕ → List ℕ → Cursor
+cursorAfter zero text = start
+cursorAfter (suc n) text = afterOf text (cursorAfter n text)
 
 -- the part of the text that the record at the cursor occupies, without its line feed; empty for refusal 8
 unfoldable pub recordAt : List ℕ → Cursor → List ℕ

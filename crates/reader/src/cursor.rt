@@ -2,7 +2,7 @@
 ghost use mathlib.Core.Path.{_≡_};
 ghost use Prim.Native.Nat.{_≤_};
 ghost use lib.ListN.{length};
-ghost use Rattle.reader.specs.Steps.{start, refusedAt, headStep, cellStep, sumStep, admitted, lineNumber, nextOf, recordAt};
+ghost use Rattle.reader.specs.Steps.{start, refusedAt, headStep, cellStep, sumStep, admitted, lineNumber, nextOf, afterOf, cursorAfter, recordAt};
 use crate::bytes::count;
 use crate::bytes::find;
 use crate::bytes::front;
@@ -173,6 +173,32 @@ pub fn next(text: &[u8], c: Cursor) -> Step
         return refuse_at(4, line);
     }
     Step::End
+}
+
+// The cursor after the record there. A refused record and the end are stayed at.
+pub fn after(text: &[u8], c: Cursor) -> Cursor
+    ensures { λ r. ⌜ r ≡ afterOf (now (text .entry)) c ⌝ }
+{
+    match next(text, c) {
+        Step::Head { next, .. } => next,
+        Step::Cell { next, .. } => next,
+        Step::Sum { next, .. } => next,
+        Step::End => c,
+        Step::Refused(_) => c,
+    }
+}
+
+// The cursor after the first n records of a text.
+pub fn skip(text: &[u8], n: u16) -> Cursor
+    ensures { λ r. ⌜ r ≡ cursorAfter n (now (text .entry)) ⌝ }
+{
+    let mut cursor = Cursor::new();
+    let mut i = 0;
+    while i < n {
+        cursor = after(text, cursor);
+        i += 1;
+    }
+    cursor
 }
 
 // The part of the text that the record at the cursor occupies, without its line feed. It is empty for refusal 8 and for empty text.

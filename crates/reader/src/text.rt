@@ -1,0 +1,65 @@
+// The reader: a struct with the caller's text and a cursor in it, and thin functions over the covered cursor.
+// The borrow checker covers no function over such a struct, so each is proved by hand. A caller of `nth`, whose parameters are plain, is covered.
+ghost use mathlib.Core.Path.{_≡_};
+ghost use Rattle.reader.specs.Steps.{start, nextOf, afterOf, cursorAfter, recordAt};
+use crate::cursor::Cursor;
+use crate::cursor::Step;
+use crate::cursor::after;
+use crate::cursor::next;
+use crate::cursor::record_at;
+use crate::cursor::skip;
+
+// A text, and where its next record stands.
+pub struct Reader<'a> {
+    pub text: &'a [u8],
+    pub cursor: Cursor,
+}
+
+impl<'a> Reader<'a> {
+    // A reader at the start of a text.
+    pub fn new(text: &'a [u8]) -> Self
+        ensures { λ r. ⌜ (r .text ≡ text .entry) × (r .cursor ≡ start) ⌝ }
+    {
+        Reader {
+            text,
+            cursor: Cursor {
+                at: 0,
+                width: 0,
+                cell_count: 0,
+                sum_count: 0,
+            },
+        }
+    }
+
+    // The record at the reader, the end of the text, or the refusal due there.
+    pub fn step(self) -> Step
+        ensures { λ s. ⌜ s ≡ nextOf (now (self .entry .text)) (self .entry .cursor) ⌝ }
+    {
+        next(self.text, self.cursor)
+    }
+
+    // The reader after that record. It stays at a refused record and at the end.
+    pub fn advance(self) -> Self
+        ensures { λ r. ⌜ (r .text ≡ self .entry .text) × (r .cursor ≡ afterOf (now (self .entry .text)) (self .entry .cursor)) ⌝ }
+    {
+        Reader {
+            text: self.text,
+            cursor: after(self.text, self.cursor),
+        }
+    }
+
+    // The part of the text that the record there occupies, refused or not, without its line feed. It is empty for refusal 8 and for empty text.
+    pub fn record(self) -> &'a [u8]
+        ensures { λ r. ⌜ now r ≡ recordAt (now (self .entry .text)) (self .entry .cursor) ⌝ }
+    {
+        record_at(self.text, self.cursor)
+    }
+}
+
+// The record after the first n of a text. It is the refused one, or the end of the text, where either comes sooner.
+pub fn nth(text: &[u8], n: u16) -> Step
+    ensures { λ r. ⌜ r ≡ nextOf (now (text .entry)) (cursorAfter n (now (text .entry))) ⌝ }
+{
+    let cursor = skip(text, n);
+    Reader { text, cursor }.step()
+}
