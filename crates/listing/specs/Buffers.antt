@@ -1,7 +1,8 @@
 -- What a writer answers, and what the lent buffer then holds. Assumes nothing.
+use mathlib.Core.Path.{_≡_}
 use Prim.Native.Nat.{ℕ}
 use mathlib.Core.Bool.{cond}
-use mathlib.Core.List.{List, _++_}
+use mathlib.Core.List.{List, [], _∷_, _++_}
 use lib.Dec.{leb}
 use lib.ListN.{length, drop}
 use Rattle.arith.specs.Refusals.{refusal}
@@ -12,6 +13,17 @@ use Rattle.sheet.specs.declared.passes.Outcome.the-variants as Outcome
 use Rattle.listing.specs.Listings.{listingOf}
 use Rattle.listing.specs.declared.writer.Written.{Written}
 use Rattle.listing.specs.declared.writer.Written.the-variants.{Length, Refused}
+
+-- ---- answers
+-- 01's number of each case: 0 where the listing was written
+abbrev pub writtenNumber : Written → ℕ
+writtenNumber (Length n) = 0
+writtenNumber (Refused r) = r .number
+
+-- 01's values of each case: the length in bytes; the place
+abbrev pub writtenValues : Written → List ℕ
+writtenValues (Length n) = n ∷ []
+writtenValues (Refused r) = r .place ∷ []
 
 -- ---- bytes written at the start of a buffer
 -- their number, or refusal 13 where the buffer is too short
@@ -36,3 +48,9 @@ writtenBy run out = unlessRefused (run .outcome) Refused (sizeIn (listingOf run)
 -- the lent buffer afterwards
 unfoldable pub bufferBy : Run → List ℕ → List ℕ
 bufferBy run out = unlessRefused (run .outcome) (λ _. out) (storedIn (listingOf run) out)
+
+-- ---- what a call promises: its answer, what the lent buffer holds afterwards, and that a refusal leaves the buffer as it was
+pub record Writes (answer : Written) (stored out : List ℕ) (r : Written) (after : List ℕ) : Type 0 where
+  pub answers : r ≡ answer
+  pub holds : after ≡ stored
+  pub keeps : (writtenNumber r ≡ 0 → ⊥) → after ≡ out

@@ -29,10 +29,10 @@ enum-known-written : tie.Need-enum-known-written
 enum-known-written c = search needs
 
 array-share-prefix-out : tie.Need-array-share-prefix-out
-array-share-prefix-out c = omega (arith, size-within _ _ _ (sym (c .before .before .before .before .list .ensures .0) ∙ c .before .written .given .1), c .before .before .before .before .list .kept)
+array-share-prefix-out c = omega (arith, size-within _ _ _ (sym (c .before .before .before .before .list .ensures .answers) ∙ c .before .written .given .1), c .before .before .before .before .list .kept)
 
 slice-aggregate-write-all : tie.Need-slice-aggregate-write-all
-slice-aggregate-write-all c = sym (length-take-le _ _ (omega (arith, size-within _ _ _ (sym (c .before .before .before .before .before .list .ensures .0) ∙ c .before .before .written .given .1), c .before .before .before .before .before .list .kept)))
+slice-aggregate-write-all c = sym (length-take-le _ _ (omega (arith, size-within _ _ _ (sym (c .before .before .before .before .before .list .ensures .answers) ∙ c .before .before .written .given .1), c .before .before .before .before .before .list .kept)))
 
 write-all-requires : tie.Need-write-all-requires
 write-all-requires c κs = search needs

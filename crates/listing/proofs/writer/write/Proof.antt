@@ -2,7 +2,6 @@
 use mathlib.Core.Logic.{inl, inr}
 use types.Run.{OneOf}
 use denote.Enum.Declared.{tagOf}
-use denote.Ref.{now}
 use mathlib.Core.List.{[], _∷_}
 use Rattle.arith.specs.declared.refusal.Refusal.{Refusal}
 use Rattle.sheet.proofs.passes.Outcome as T
@@ -10,6 +9,8 @@ use Rattle.sheet.specs.declared.passes.Outcome.{Outcome}
 use Rattle.sheet.specs.declared.passes.Outcome.the-variants.{Settled, NoTriple, Stopped, Refused}
 use Rattle.listing.specs.declared.writer.Written.the-variants as Written
 use mathlib.Core.Path.{_≡_, refl}
+use Rattle.sheet.specs.Narrowings.{narrowSheetOf}
+use Rattle.listing.proofs.Delivering.{run-written}
 use Rattle.listing.specs.Buffers.{unlessRefused, writtenBy, bufferBy}
 use native.Mathlib.Omega.{arith}
 use borrow.Author.Needs.{needs}
@@ -34,7 +35,9 @@ enum-known-outcome c = search needs
 
 returns : tie.Need-returns
 unfolding writtenBy bufferBy
-returns c = rw (← c .before .before .before .narrow-sheet .ensures .answer, c .before .outcome .given .1) (refl, refl)
+returns c =
+    let s = c .before .before .before .before .before .args in
+    run-written (narrowSheetOf (s .sheet)) (s .out .now) _ _ (rw (← c .before .before .before .narrow-sheet .ensures .answer, c .before .outcome .given .1)) (rw (← c .before .before .before .narrow-sheet .ensures .answer, c .before .outcome .given .1))
 
 write-run-requires : tie.Need-write-run-requires
 write-run-requires c κs = search needs
@@ -45,9 +48,12 @@ same-length c = search needs
 returns-2 : tie.Need-returns-2
 unfolding writtenBy bufferBy
 returns-2 c =
+    let s = c .before .before .before .before .before .before .before .args in
     let o = c .before .before .before .before .before .narrow-sheet .result .outcome in
-    rw (← c .before .before .before .before .before .narrow-sheet .ensures .answer, not-refused o Written.Refused _ (c .before .before .before .before .match .keys2), not-refused o (λ _. now (c .before .before .before .before .before .before .before .args .out)) _ (c .before .before .before .before .match .keys2))
-    (c .before .before .write-run .ensures)
+    let k = c .before .before .before .before .match .keys2 in
+    run-written (narrowSheetOf (s .sheet)) (s .out .now) _ _
+    (rw (← c .before .before .before .before .before .narrow-sheet .ensures .answer, not-refused o Written.Refused _ k) (c .before .before .write-run .ensures .0))
+    (rw (← c .before .before .before .before .before .narrow-sheet .ensures .answer, not-refused o (λ _. s .out .now) _ k) (c .before .before .write-run .ensures .1))
 
 pub write-spec : {M : Type 1} → statement M
 write-spec =
