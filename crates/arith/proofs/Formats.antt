@@ -1,11 +1,13 @@
 -- Formats as values: the format of a width is sound, and patterns and ordinals by a sound format's own numbers. Rests on `ladder`'s laws of ordinals.
 use mathlib.Core.Path.{_≡_, refl, sym, ap, ap₂, _∙_}
+use mathlib.Core.Logic.{inl, inr}
 use mathlib.Core.Bool.{Bool, true, false, cond, _&&_, true≢false}
-use Prim.Native.Nat.{ℕ, _+_, _-_, _≤_, _<_}
+use Prim.Native.Nat.{ℕ, _+_, _-_, _*_, _≤_, _<_}
 use native.Mathlib.Omega.{arith}
 use lib.Dec.{eqb, ltb, lit≤}
 use borrow.Author.Tests.{lt-ltb, le-ltb, ltb-true}
 use Rattle.ladder.specs.Ordinal as L
+use Rattle.ladder.proofs.Cases.{le-or-lt}
 use Rattle.ladder.proofs.Ordinals.{infinity-lt-sign}
 use Rattle.arith.specs.declared.format.Format.{Format}
 use Rattle.arith.specs.Formats.{binary, formatOf, Sound, isFinite, ordinal, pattern, Finite}
@@ -33,8 +35,11 @@ module _ (F : Format) (ok : Sound F) where
   pub finite-high : (p : ℕ) → F .sign ≤ p → ltb (p - F .sign) (F .infinity) ≡ isFinite F p
   finite-high p l = sym (finite-is p ∙ ap (λ (b : Bool). cond b (ltb p (F .infinity)) (ltb (p - F .sign) (F .infinity))) (le-ltb _ _ l))
 
-  pub below-infinity : (p : ℕ) → isFinite F p ≡ true → F .sign ≤ p → p - F .sign < F .infinity
+  below-infinity : (p : ℕ) → isFinite F p ≡ true → F .sign ≤ p → p - F .sign < F .infinity
   below-infinity p h l = ltb-true _ _ (finite-high p l ∙ h)
+
+  pub finite-fits : (p : ℕ) → isFinite F p ≡ true → p < 2 * F .sign
+  finite-fits p h = elim (le-or-lt (F .sign) p) [ inl l ↦ omega (arith, infinity-lt, below-infinity p h l) | inr l ↦ omega arith ]
 
   pub ordinal-low : (p : ℕ) → p < F .sign → F .sign + p ≡ ordinal F p
   unfolding L.ordinal

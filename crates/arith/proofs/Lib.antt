@@ -12,5 +12,6 @@ pub mod Bounds
 pub mod Narrowings
 pub mod Callers
 pub mod Floating
+pub mod Adding
 pub mod Placing
 pub mod Valid

@@ -5,6 +5,7 @@ mod exact;
 mod extent;
 pub mod floats;
 pub mod format;
+mod hardware;
 pub mod interval;
 pub mod narrow;
 mod operand;

@@ -1,6 +1,6 @@
-// Patterns and ordinals: which patterns are finite, the ordinal of a finite one, and the one pattern that is written for a finite ordinal.
+// Patterns and ordinals: which patterns are finite, the ordinal of a pattern of the width, and the one pattern that is written for a finite ordinal.
 ghost use mathlib.Core.Path.{_≡_};
-ghost use mathlib.Core.Bool.{true};
+ghost use Prim.Native.Nat.{_*_, _<_};
 ghost use Rattle.arith.specs.Formats.{Sound, Finite, isFinite, ordinal, pattern};
 use crate::format::Format;
 
@@ -15,9 +15,9 @@ pub(crate) fn finite(format: Format, p: u64) -> bool
     p - format.sign < format.infinity
 }
 
-// The ordinal of a finite pattern.
+// The ordinal of a pattern with no bits beyond the width, an infinity's and a NaN's too.
 pub(crate) fn ordinal_of(format: Format, p: u64) -> u64
-    requires { ⌜ (Sound format) × (isFinite format p ≡ true) ⌝ }
+    requires { ⌜ (Sound format) × (p < 2 * format .sign) ⌝ }
     ensures { λ r. ⌜ r ≡ ordinal format p ⌝ }
 {
     if p < format.sign {

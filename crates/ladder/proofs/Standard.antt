@@ -1,27 +1,27 @@
--- The sum is the one of the kit's account of IEEE 754, lib.Ieee's `add`, which `f32` and `f64` have: for two finite patterns the ordinal of its bits is the sum of their ordinals, overflow included.
+-- The sum is the one of the kit's account of IEEE 754, lib.Ieee's `add`, which `f32` and `f64` have: for two finite patterns the ordinal of its bits is the sum of their ordinals, overflow included. Neither they nor their sum are NaN's.
 -- Assumes nothing.
 use mathlib.Core.Path.{_≡_, refl, sym, ap, ap₂, _∙_, subst}
 use mathlib.Core.Logic.{inl, inr}
-use mathlib.Core.Bool.{Bool, true, false, cond, _&&_, Bool·beq}
+use mathlib.Core.Bool.{Bool, true, false, not, cond, _&&_, Bool·beq}
 use Prim.Native.Nat.{ℕ, zero, suc, _+_, _-_, _*_, _/_, _%_, _^_, min, _≤_, _<_}
 use native.Mathlib.Nat.{lt-of-mul-lt-mul-right, mul-lt-mul-of-pos-right, mul-sub, mul-pos, mul-comm, add-mod-left, mod-eq-of-lt, mul-add-mod-self-left, div-lt-iff-lt-mul}
 use native.Mathlib.Omega.{arith}
-use lib.Dec.{leb, ltb, eqb, lt→ltb, le→leb, not-T, eqb→eq}
+use lib.Dec.{T, leb, ltb, eqb, lt→ltb, le→leb, not-T, eqb→eq, lit≤}
 use lib.Arith.{le→nltb, lt→nleb}
 use lib.Pow.{pow-pos}
 use lib.Ieee as I
-use lib.Ieee.{Float, nan, inf, fin, Format, binary32, binary64, prec, low, up, down, odd, hid, ones, top, ofFields, ofBits, toBits, add}
+use lib.Ieee.{Float, nan, inf, fin, Format, binary32, binary64, prec, low, up, down, odd, hid, ones, top, ofFields, ofBits, toBits, isNan, nanBits, add}
 use lib.Ieee.Fits.{two, down-pos}
-use lib.Ieee.Bits.{cond-no, is-true, is-false}
+use lib.Ieee.Bits.{cond-no, is-true, is-false, nanBits-is}
 use lib.Ieee.Exact.{HasValue, odd-sign}
 use lib.Ieee.Scale.{round-same}
 use Rattle.ladder.specs.Magnitude.{scaled, magnitude}
 use Rattle.ladder.specs.Rounding.{round}
-use Rattle.ladder.specs.Ordinal.{sign, infinity, isFinite, ordinal, above, below}
+use Rattle.ladder.specs.Ordinal.{sign, infinity, isFinite, ordinal, pattern, Finite, above, below}
 use Rattle.ladder.specs.Sum.{rounded, sum}
 use Rattle.ladder.proofs.Cases.{le-or-lt}
-use Rattle.ladder.proofs.Ordinals.{infinity-lt-sign, finite-low, finite-high, ordinal-low, ordinal-high, above-none, below-none}
-use Rattle.ladder.proofs.Sum.{rounded-up, rounded-down}
+use Rattle.ladder.proofs.Ordinals.{infinity-lt-sign, finite-low, finite-high, ordinal-low, ordinal-high, pattern-finite, ordinal-pattern, above-none, below-none}
+use Rattle.ladder.proofs.Sum.{rounded-up, rounded-down, sum-range}
 use Rattle.ladder.proofs.Ieee.{frac, round-bits}
 
 -- ---- the sum of two fractions turns on their values alone
@@ -92,12 +92,23 @@ value-of F s m h =
     let e : ofBits F (signedBits F s m) ≡ ofFields F s (m / hid F) (m % hid F) = ap₂ (λ (b : Bool) (x : ℕ). ofFields F b (x / hid F) (signedBits F s m % hid F)) (r .0) (r .1) ∙ ap (ofFields F s (m / hid F)) (r .2) in
     subst (λ (z : Float). HasValue z s (scaled (hid F) (m / hid F) (m % hid F)) (2 ^ low F)) (sym e) (fields-value F s (m / hid F) (m % hid F) (div-lt-iff-lt-mul (pow-pos (frac F)) .1 h))
 
+-- ---- what has a value is no NaN
+valued : (z : Float) (s : Bool) (a c : ℕ) → HasValue z s a c → T (not (isNan z))
+unfolding isNan
+valued nan s a c h = absurd h
+valued (inf t) s a c h = tt
+valued (fin t m e) s a c h = tt
+
+half : (F : Format) → 1 ≤ hid F / 2
+half binary32 = lit≤ tt
+half binary64 = lit≤ tt
+
 -- ---- ordinals: the format of the kit, by its exponent bits
 abbrev pub exponents : Format → ℕ
 exponents binary32 = 8
 exponents binary64 = 11
 
-sign-is : (F : Format) → sign (frac F) (exponents F) ≡ top F
+pub sign-is : (F : Format) → sign (frac F) (exponents F) ≡ top F
 unfolding sign
 sign-is binary32 = refl
 sign-is binary64 = refl
@@ -210,6 +221,29 @@ module _ (F : Format) where
       ∙ ap (λ (z : Float). ordinal f e (toBits F z)) (add-at F (ofBits F (signedBits F (i .b) (i .m))) (ofBits F (signedBits F (j .b) (j .m))) (i .b) (j .b) (magnitude f (i .m)) (magnitude f (j .m)) (2 ^ low F) (pow-pos (low F)) (value-of F (i .b) (i .m) (i .low)) (value-of F (j .b) (j .m) (j .low)))
       ∙ core (i .b) (j .b) (magnitude f (i .m)) (magnitude f (j .m))
       ∙ sym (ap₂ (rounded f e) (ap₂ _+_ (i .above-is) (j .above-is)) (ap₂ _+_ (i .below-is) (j .below-is)))
+
+  -- ---- NaN's
+  pub pattern-number : (p : ℕ) → isFinite f e p ≡ true → T (not (nanBits F p))
+  pattern-number p h =
+      let i = read-pattern p h in
+      rw (nanBits-is F p) (subst (λ (n : ℕ). T (not (isNan (ofBits F n)))) (sym (i .is)) (valued _ _ _ _ (value-of F (i .b) (i .m) (i .low))))
+
+  -- the ordinal of the pattern that lib.Ieee writes for a NaN lies beyond infinity's
+  below-nan : (z : Float) → ordinal f e (toBits F z) ≤ s + cap → T (not (isNan z))
+  unfolding isNan toBits
+  below-nan nan h = absurd (omega (arith, half F, infinity-is F, ordinal-low f e (ones F * hid F + hid F / 2) (omega (arith, sign-is F, pow-pos (frac F)))))
+  below-nan (inf t) h = tt
+  below-nan (fin t m d) h = tt
+
+  pub sum-number : (x a : ℕ) → isFinite f e x ≡ true → isFinite f e a ≡ true → T (not (isNan (add F (ofBits F x) (ofBits F a))))
+  sum-number x a X A = below-nan _ (subst (λ (r : ℕ). r ≤ s + cap) (sym (add-sum x a X A)) (sum-range f e some (ordinal f e x) (ordinal f e a) .1))
+
+  -- ---- the sum of two ordinals by their patterns
+  pub add-ordinals : (x a : ℕ) → Finite f e x → Finite f e a
+      → ordinal f e (toBits F (add F (ofBits F (pattern f e x)) (ofBits F (pattern f e a)))) ≡ sum f e x a
+  add-ordinals x a X A =
+      add-sum (pattern f e x) (pattern f e a) (pattern-finite f e x X) (pattern-finite f e a A)
+      ∙ ap₂ (sum f e) (ordinal-pattern f e x X) (ordinal-pattern f e a A)
 
 -- at the two widths
 pub add-sum-32 : (x a : ℕ) → isFinite 23 8 x ≡ true → isFinite 23 8 a ≡ true → ordinal 23 8 (toBits binary32 (add binary32 (ofBits binary32 x) (ofBits binary32 a))) ≡ sum 23 8 (ordinal 23 8 x) (ordinal 23 8 a)

@@ -6,6 +6,7 @@ use Rattle.arith.specs.Formats.{Finite}
 use Rattle.arith.specs.declared.interval.Image.the-variants as Image
 use Rattle.arith.specs.Intervals.{isOrdered, translated, movedIn, shiftIn}
 use Rattle.arith.proofs.Refusing.{refused, passed, holds, fails}
+use Rattle.arith.proofs.Formats.{finite-fits}
 use Rattle.arith.proofs.Intervals.{range-ends}
 use Rattle.arith.proofs.interval.shift_in.Statement.{statement}
 use Rattle.arith.proofs.interval.shift_in.Tie as tie
@@ -60,7 +61,8 @@ returns-3 c =
 ordinal-of-requires : tie.Need-ordinal-of-requires
 ordinal-of-requires c κs =
     let s2 = c .before .before .before in
-    (s2 .before .before .before .before .pre, holds (s2 .before .finite .ensures) (s2 .if2 .left))
+    let ok = s2 .before .before .before .before .pre in
+    (ok, finite-fits _ ok _ (holds (s2 .before .finite .ensures) (s2 .if2 .left)))
 
 translate-requires : tie.Need-translate-requires
 translate-requires c κs =

@@ -1,7 +1,7 @@
 -- `arith::pattern::ordinal_of` meets its contract. Assumes nothing.
 use borrow.Author.Needs.{needs}
 use native.Mathlib.Omega.{arith}
-use Rattle.arith.proofs.Formats.{infinity-lt, below-infinity, ordinal-low, ordinal-high}
+use Rattle.arith.proofs.Formats.{ordinal-low, ordinal-high}
 use Rattle.arith.proofs.pattern.ordinal_of.Statement.{statement}
 use Rattle.arith.proofs.pattern.ordinal_of.Tie as tie
 
@@ -12,9 +12,7 @@ returns : tie.Need-returns
 returns c = ordinal-low _ (c .before .before .before .pre .0) _ (c .before .if1 .taken)
 
 sub-result : tie.Need-sub-result
-sub-result c =
-    let s = c .before .before .before .before in
-    omega (arith, infinity-lt (s .args .format) (s .pre .0), below-infinity (s .args .format) (s .pre .0) (s .args .p) (s .pre .1) (c .before .before .if1 .left))
+sub-result c = omega arith
 
 returns-2 : tie.Need-returns-2
 returns-2 c = ordinal-high _ (c .before .before .before .before .pre .0) _ (c .before .before .if1 .left)

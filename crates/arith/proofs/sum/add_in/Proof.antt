@@ -6,6 +6,7 @@ use Rattle.arith.specs.Formats.{Finite}
 use Rattle.arith.specs.declared.sum.Sum.the-variants as Sum
 use Rattle.arith.specs.Sums.{sumAnswer, addIn}
 use Rattle.arith.proofs.Refusing.{refused, passed, holds, fails}
+use Rattle.arith.proofs.Formats.{finite-fits}
 use Rattle.arith.proofs.sum.add_in.Statement.{statement}
 use Rattle.arith.proofs.sum.add_in.Tie as tie
 
@@ -38,12 +39,14 @@ returns-2 c =
 ordinal-of-requires : tie.Need-ordinal-of-requires
 ordinal-of-requires c κs =
     let s1 = c .before .before in
-    (s1 .before .before .pre, holds (s1 .before .finite .ensures) (s1 .if1 .left))
+    let ok = s1 .before .before .pre in
+    (ok, finite-fits _ ok _ (holds (s1 .before .finite .ensures) (s1 .if1 .left)))
 
 ordinal-of-requires-2 : tie.Need-ordinal-of-requires-2
 ordinal-of-requires-2 c κs =
     let s2 = c .before in
-    (s2 .before .before .before .before .pre, holds (s2 .before .finite2 .ensures) (s2 .if2 .left))
+    let ok = s2 .before .before .before .before .pre in
+    (ok, finite-fits _ ok _ (holds (s2 .before .finite2 .ensures) (s2 .if2 .left)))
 
 add-finite-requires : tie.Need-add-finite-requires
 add-finite-requires c κs =

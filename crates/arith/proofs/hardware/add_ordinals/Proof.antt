@@ -1,0 +1,44 @@
+-- `arith::hardware::add_ordinals` meets its contract: the sum turns on the format's bits alone. Assumes nothing.
+use mathlib.Core.Path.{sym, ap₂, _∙_}
+use Prim.Native.Nat.{ℕ}
+use borrow.Author.Needs.{needs}
+use Rattle.ladder.specs.Sum.{sum}
+use Rattle.arith.proofs.hardware.add_ordinals.Statement.{statement}
+use Rattle.arith.proofs.hardware.add_ordinals.Tie as tie
+
+add-binary64-requires : tie.Need-add-binary64-requires
+add-binary64-requires c κs =
+    let z = c .before .before .before .before in
+    (rw (c .before .before .if1 .taken, c .if2 .taken) at (z .pre .1), rw (c .before .before .if1 .taken, c .if2 .taken) at (z .pre .2))
+
+returns : tie.Need-returns
+returns c =
+    let z = c .before .before .before .before .before in
+    c .add-binary64 .ensures ∙ sym (ap₂ (λ (f e : ℕ). sum f e (z .args .x) (z .args .a)) (c .before .before .before .if1 .taken) (c .before .if2 .taken))
+
+add-binary32-requires : tie.Need-add-binary32-requires
+add-binary32-requires c κs =
+    let z = c .before .before .before .before .before .before in
+    (rw (c .before .before .if3 .taken, c .if4 .taken) at (z .pre .1), rw (c .before .before .if3 .taken, c .if4 .taken) at (z .pre .2))
+
+returns-2 : tie.Need-returns-2
+returns-2 c =
+    let z = c .before .before .before .before .before .before .before in
+    c .add-binary32 .ensures ∙ sym (ap₂ (λ (f e : ℕ). sum f e (z .args .x) (z .args .a)) (c .before .before .before .if3 .taken) (c .before .if4 .taken))
+
+sum-of-requires : tie.Need-sum-of-requires
+sum-of-requires c κs = search needs
+
+returns-3 : tie.Need-returns-3
+returns-3 c = search needs
+
+pub add-ordinals-spec : {M : Type 1} → statement M
+add-ordinals-spec =
+    tie.close
+    (tie.spec
+    add-binary64-requires
+    returns
+    add-binary32-requires
+    returns-2
+    sum-of-requires
+    returns-3)
