@@ -27,7 +27,8 @@ extern "C" {
  * They are tested in this order; the first that applies is the answer.
  *
  * result is the caller's, for length bytes; nothing else may read or write them during the call. With length 0 no byte is
- * touched, but result must still not be null. The function keeps no state and allocates nothing. */
+ * touched, but result must still not be null. The function keeps no state and allocates nothing. The calling thread's
+ * floating-point environment must be the default one: rounding to nearest, subnormals kept. */
 uint64_t tazsmibor_narrow(uint64_t width,
                           uint64_t x_low, uint64_t x_high,
                           uint64_t a_low, uint64_t a_high,

@@ -4,13 +4,13 @@ ghost use Rattle.arith.specs.Formats.{Sound};
 ghost use Rattle.arith.specs.Intervals.{Ends};
 ghost use Rattle.arith.specs.Searches.{LeastOf, ExtentOf, HasX, HasB};
 use crate::format::Format;
+use crate::hardware::add_ordinals;
 use crate::operand::Found;
 use crate::range::Range;
 use crate::range::mirror_of;
 use crate::range::reflect;
 use crate::solve::Pair;
 use crate::solve::least_x;
-use crate::sum::sum_of;
 
 // From the least to the greatest of some numbers, or that there are none.
 pub(crate) enum Extent {
@@ -49,7 +49,7 @@ fn search_b(format: Format, x: Range, a: Range, b: Range) -> Found
         return Found::Absent;
     };
     let mut low = b.low;
-    let mut high = sum_of(format, p, q);
+    let mut high = add_ordinals(format, p, q);
     let mut near = true;
     while low < high {
         let middle = if near {
@@ -59,7 +59,7 @@ fn search_b(format: Format, x: Range, a: Range, b: Range) -> Found
         };
         near = !near;
         match least_x(format, x, a, Range { low, high: middle }) {
-            Pair::At { x: p, a: q } => high = sum_of(format, p, q),
+            Pair::At { x: p, a: q } => high = add_ordinals(format, p, q),
             Pair::Absent => low = middle + 1,
         }
     }
@@ -89,7 +89,7 @@ fn least_b(format: Format, x: Range, a: Range, b: Range) -> Found
     requires { ⌜ (Sound format) × (Ends format x) × (Ends format a) × (Ends format b) × (x .low ≤ x .high) × (a .low ≤ a .high) ⌝ }
     ensures { λ r. ⌜ LeastOf (HasB format x a b) r ⌝ }
 {
-    let least = sum_of(format, x.low, a.low);
+    let least = add_ordinals(format, x.low, a.low);
     if least < b.low {
         return seek_b(format, x, a, b);
     }

@@ -4,9 +4,9 @@ ghost use Rattle.arith.specs.Formats.{Sound, Finite};
 ghost use Rattle.arith.specs.Intervals.{Ends};
 ghost use Rattle.arith.specs.Searches.{LeastOf, Attains};
 use crate::format::Format;
+use crate::hardware::add_ordinals;
 use crate::range::Range;
 use crate::range::mirror_of;
-use crate::sum::sum_of;
 use crate::words::shift_left;
 use crate::words::shift_right;
 
@@ -39,14 +39,14 @@ fn half_gap(format: Format, b: u64) -> u64
 fn guess(format: Format, a: u64, b: u64) -> u64
     requires { ⌜ (Sound format) × (Finite format a) × (Finite format b) ⌝ }
 {
-    let d = sum_of(format, b, mirror_of(format, a));
+    let d = add_ordinals(format, b, mirror_of(format, a));
     if format.sign + format.infinity <= d {
         return d;
     }
     if d <= format.sign - format.infinity {
         return d;
     }
-    sum_of(format, d, half_gap(format, b))
+    add_ordinals(format, d, half_gap(format, b))
 }
 
 // Where the least operand of a range is likely: the guess, or the end next to it.
@@ -87,7 +87,7 @@ fn search_operand(format: Format, a: u64, b: u64, r: Range) -> u64
     let mut stride: u64 = 1;
     while low < high {
         let p = probe(low, high, at);
-        if sum_of(format, p, a) < b {
+        if add_ordinals(format, p, a) < b {
             low = p + 1;
             at = std::num::wrapping_add_u64(p, stride);
         } else {
@@ -107,7 +107,7 @@ pub(crate) fn least_operand(format: Format, a: u64, b: u64, r: Range) -> Found
     if r.high < r.low {
         return Found::Absent;
     }
-    if sum_of(format, r.high, a) < b {
+    if add_ordinals(format, r.high, a) < b {
         return Found::Absent;
     }
     Found::At(search_operand(format, a, b, r))

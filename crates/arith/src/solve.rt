@@ -7,10 +7,10 @@ use crate::clamp::granularity;
 use crate::clamp::lower;
 use crate::clamp::raise;
 use crate::format::Format;
+use crate::hardware::add_ordinals;
 use crate::operand::Found;
 use crate::operand::least_operand;
 use crate::range::Range;
-use crate::sum::sum_of;
 
 // What one turn finds: an a that goes with x, that there is no triple, or the next x to look at.
 pub(crate) enum Turn {
@@ -30,13 +30,13 @@ fn advance(format: Format, at: u64, x: Range, a: Range, b: Range) -> Turn
     requires { ⌜ (Sound format) × (Ends format x) × (Ends format a) × (Ends format b) × (Frontier format x a b at) ⌝ }
     ensures { λ r. ⌜ TurnOf format x a b at r ⌝ }
 {
-    if b.high < sum_of(format, at, a.low) {
+    if b.high < add_ordinals(format, at, a.low) {
         return Turn::Ended;
     }
     let Found::At(c) = least_operand(format, at, b.low, a) else {
         return Turn::Ended;
     };
-    if sum_of(format, at, c) <= b.high {
+    if add_ordinals(format, at, c) <= b.high {
         return Turn::Solved(c);
     }
     let rest = Range {

@@ -32,12 +32,12 @@ middle-in : (c : tie.Joined1 Inv-loop μ-loop) → (c .before .before .loop .low
 middle-in c = ⊎-elim (λ w. (omega arith, omega arith)) (λ w. (omega arith, omega arith)) (c .if1 .came)
 
 -- a turn that finds a triple
-lowered : (c : tie.After-sum-of2 Inv-loop μ-loop) → let z = c .before .before .before .before .before .before .before .before .before .before .before .before .before .args in let v = c .before .before .before .before .before .before .before .loop in Bracket (Sums (z .format .fraction) (z .format .exponent) (span (z .x)) (span (z .a)) (z .b .low) (c .before .before .before .before .before .before .before .before .sum-of .result)) (v .low) (c .sum-of2 .result) × (c .sum-of2 .result < v .high)
+lowered : (c : tie.After-add-ordinals2 Inv-loop μ-loop) → let z = c .before .before .before .before .before .before .before .before .before .before .before .before .before .args in let v = c .before .before .before .before .before .before .before .loop in Bracket (Sums (z .format .fraction) (z .format .exponent) (span (z .x)) (span (z .a)) (z .b .low) (c .before .before .before .before .before .before .before .before .add-ordinals .result)) (v .low) (c .add-ordinals2 .result) × (c .add-ordinals2 .result < v .high)
 lowered c =
     let z = c .before .before .before .before .before .before .before .before .before .before .before .before .before in
     let F = z .args .format in
     let v = c .before .before .before .before .before .before .before .loop in
-    sums-lower (F .fraction) (F .exponent) (span (z .args .x)) (span (z .args .a)) _ _ (v .low) (v .high) (c .before .before .before .before .before .if1 .middle) (v .inv .1) _ _ (c .sum-of2 .result) (v .inv .0) (middle-in (c .before .before .before .before .before) .1) (found-2 (c .before)) (c .sum-of2 .ensures)
+    sums-lower (F .fraction) (F .exponent) (span (z .args .x)) (span (z .args .a)) _ _ (v .low) (v .high) (c .before .before .before .before .before .if1 .middle) (v .inv .1) _ _ (c .add-ordinals2 .result) (v .inv .0) (middle-in (c .before .before .before .before .before) .1) (found-2 (c .before)) (c .add-ordinals2 .ensures)
 
 least-x-requires : tie.Need-least-x-requires Inv-loop μ-loop
 least-x-requires c κs = (c .pre .0, c .pre .1, c .pre .2, c .pre .3)
@@ -55,8 +55,8 @@ returns c =
     let n : LeadingOf F (z .args .x) (z .args .a) (z .args .b) Pair.Absent = rw (c .enum-told .given .1) at (c .before .before .least-x .ensures) in
     never-b (F .fraction) (F .exponent) (span (z .args .x)) (span (z .args .a)) (span (z .args .b)) n
 
-sum-of-requires : tie.Need-sum-of-requires Inv-loop μ-loop
-sum-of-requires c κs =
+add-ordinals-requires : tie.Need-add-ordinals-requires Inv-loop μ-loop
+add-ordinals-requires c κs =
     let z = c .before .before .before .before in
     let F = z .args .format in
     let l = found c in
@@ -66,7 +66,7 @@ loop-holds : tie.Need-loop-holds Inv-loop μ-loop
 loop-holds c =
     let z = c .before .before .before .before .before in
     let F = z .args .format in
-    (le-refl _, sums-start (F .fraction) (F .exponent) (span (z .args .x)) (span (z .args .a)) (span (z .args .b)) _ _ _ (found (c .before)) (c .sum-of .ensures))
+    (le-refl _, sums-start (F .fraction) (F .exponent) (span (z .args .x)) (span (z .args .a)) (span (z .args .b)) _ _ _ (found (c .before)) (c .add-ordinals .ensures))
 
 sub-middle : tie.Need-sub-middle Inv-loop μ-loop
 sub-middle c = omega arith
@@ -90,8 +90,8 @@ least-x-requires-2 c κs =
 enum-known-p-2 : tie.Need-enum-known-p-2 Inv-loop μ-loop
 enum-known-p-2 c = search needs
 
-sum-of-requires-2 : tie.Need-sum-of-requires-2 Inv-loop μ-loop
-sum-of-requires-2 c κs =
+add-ordinals-requires-2 : tie.Need-add-ordinals-requires-2 Inv-loop μ-loop
+add-ordinals-requires-2 c κs =
     let z = c .before .before .before .before .before .before .before .before .before .before .before .before in
     let F = z .args .format in
     let l = found-2 c in
@@ -139,14 +139,14 @@ search-b-spec =
     enum-known-p
     enum-told
     returns
-    sum-of-requires
+    add-ordinals-requires
     loop-holds
     sub-middle
     sub-middle-2
     add-middle
     least-x-requires-2
     enum-known-p-2
-    sum-of-requires-2
+    add-ordinals-requires-2
     loop-less
     loop-again
     enum-told-2

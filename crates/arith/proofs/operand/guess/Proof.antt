@@ -8,8 +8,8 @@ use Rattle.arith.proofs.operand.guess.Tie as tie
 mirror-of-requires : tie.Need-mirror-of-requires
 mirror-of-requires c κs = search needs
 
-sum-of-requires : tie.Need-sum-of-requires
-sum-of-requires c κs = search needs
+add-ordinals-requires : tie.Need-add-ordinals-requires
+add-ordinals-requires c κs = search needs
 
 add-if1 : tie.Need-add-if1
 add-if1 c = omega (arith, infinity-lt (c .before .before .before .args .format) (c .before .before .before .pre .0), c .before .before .before .pre .0 .word)
@@ -26,8 +26,8 @@ returns-2 c = search needs
 half-gap-requires : tie.Need-half-gap-requires
 half-gap-requires c κs = search needs
 
-sum-of-requires-2 : tie.Need-sum-of-requires-2
-sum-of-requires-2 c κs = search needs
+add-ordinals-requires-2 : tie.Need-add-ordinals-requires-2
+add-ordinals-requires-2 c κs = search needs
 
 returns-3 : tie.Need-returns-3
 returns-3 c = search needs
@@ -37,11 +37,11 @@ guess-spec =
     tie.close
     (tie.spec
     mirror-of-requires
-    sum-of-requires
+    add-ordinals-requires
     add-if1
     returns
     sub-if2
     returns-2
     half-gap-requires
-    sum-of-requires-2
+    add-ordinals-requires-2
     returns-3)

@@ -8,8 +8,8 @@ use Rattle.arith.proofs.operand.least_operand.Tie as tie
 returns : tie.Need-returns
 returns c = search needs
 
-sum-of-requires : tie.Need-sum-of-requires
-sum-of-requires c κs = search needs
+add-ordinals-requires : tie.Need-add-ordinals-requires
+add-ordinals-requires c κs = search needs
 
 returns-2 : tie.Need-returns-2
 returns-2 c = let z = c .before .before .before .before in let F = z .args .format in λ y t. sum-below (F .fraction) (F .exponent) (z .pre .0 .some) (z .args .r .high) (z .args .a) (z .args .b) y (omega arith) (t .inside .high) (t .enough)
@@ -22,4 +22,4 @@ returns-3 c = search needs
 
 pub least-operand-spec : {M : Type 1} → statement M
 least-operand-spec =
-    tie.close (tie.spec returns sum-of-requires returns-2 search-operand-requires returns-3)
+    tie.close (tie.spec returns add-ordinals-requires returns-2 search-operand-requires returns-3)

@@ -26,8 +26,8 @@ loop-holds c = let z = c .before in (le-refl _, record { holds = z .pre .4; belo
 probe-requires : tie.Need-probe-requires Inv-loop μ-loop
 probe-requires c κs = omega arith
 
-sum-of-requires : tie.Need-sum-of-requires Inv-loop μ-loop
-sum-of-requires c κs =
+add-ordinals-requires : tie.Need-add-ordinals-requires Inv-loop μ-loop
+add-ordinals-requires c κs =
     let z = c .before .before .before .before in
     let i = c .before .before .loop .inv in
     let t = i .1 .holds .inside in
@@ -73,7 +73,7 @@ search-operand-spec =
     start-requires
     loop-holds
     probe-requires
-    sum-of-requires
+    add-ordinals-requires
     add-low
     wrapping-add-u64-requires
     wrapping-sub-u64-requires

@@ -17,8 +17,8 @@ found c = rw (c .before .c .given .1) at (c .before .before .before .least-opera
 over : (c : tie.Else2) → let z = c .before .before .before .before .before .before .before .before .before .before .args in (z .b .high < sum (z .format) (z .at) (c .before .before .before .before .c .given .0 .0)) × (sum (z .format) (z .at) (z .a .low) ≤ z .b .high)
 over c = (omega arith, omega arith)
 
-sum-of-requires : tie.Need-sum-of-requires
-sum-of-requires c κs = search needs
+add-ordinals-requires : tie.Need-add-ordinals-requires
+add-ordinals-requires c κs = search needs
 
 returns : tie.Need-returns
 returns c =
@@ -42,8 +42,8 @@ returns-2 c =
     let n : LeastOf (Attains F (z .args .at) (z .args .b .low) (z .args .a)) Absent = rw (c .enum-told .given .1) at (c .before .before .least-operand .ensures) in
     frontier-empty (F .fraction) (F .exponent) (z .pre .0 .some) (span (z .args .x)) (span (z .args .a)) (span (z .args .b)) (z .args .at) (z .pre .4) n
 
-sum-of-requires-2 : tie.Need-sum-of-requires-2
-sum-of-requires-2 c κs =
+add-ordinals-requires-2 : tie.Need-add-ordinals-requires-2
+add-ordinals-requires-2 c κs =
     let z = c .before .before .before .before .before .before .before in
     let F = z .args .format in
     let l = found c .holds .inside in
@@ -95,13 +95,13 @@ pub advance-spec : {M : Type 1} → statement M
 advance-spec =
     tie.close
     (tie.spec
-    sum-of-requires
+    add-ordinals-requires
     returns
     least-operand-requires
     enum-known-c
     enum-told
     returns-2
-    sum-of-requires-2
+    add-ordinals-requires-2
     returns-3
     sub-least-operand
     least-operand-requires-2
