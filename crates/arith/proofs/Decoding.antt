@@ -3,7 +3,7 @@ use mathlib.Core.Path.{_≡_, refl, sym, ap, ap₂, _∙_, subst}
 use mathlib.Core.Logic.{inl, inr}
 use mathlib.Core.Bool.{Bool, true, false, not, cond, Bool·beq}
 use Prim.Native.Nat.{ℕ, _+_, _-_, _*_, _/_, _^_, _≤_, _<_}
-use native.Mathlib.Nat.{div-mul-le-self, le-of-mul-le-mul-right, mul-le-mul-right, mul-sub, mul-comm}
+use native.Mathlib.Nat.{div-mul-le-self, le-trans, le-of-mul-le-mul-right, mul-le-mul-left, mul-le-mul-right, mul-sub, mul-comm}
 use native.Mathlib.Omega.{arith}
 use lib.Pow.{pow-pos, pow-add}
 use lib.Dec.{ltb}
@@ -17,40 +17,52 @@ use Rattle.arith.specs.declared.exact.Parts.{Parts}
 use Rattle.arith.specs.declared.exact.Exact.{Exact}
 use Rattle.arith.specs.declared.format.Format.{Format}
 use Rattle.arith.specs.Formats.{Sound, Finite}
-use Rattle.arith.specs.Exacts.{partsOf, exactOf, sizeOf, Shaped, Exactly}
+use Rattle.arith.specs.Exacts.{partsOf, exactOf, sizeOf, Shaped, Low, Exactly}
 
 -- 2 ^ (j - i) times 2 ^ i
 pub pow-gap : (i j : ℕ) → i ≤ j → 2 ^ (j - i) * 2 ^ i ≡ 2 ^ j
 pow-gap i j h = sym (pow-add 2 (j - i) i) ∙ ap (λ (x : ℕ). 2 ^ x) (omega arith)
 
+-- the size of an exact sum by its two parts in units
+pub size-is : (t : Exact) (A B : ℕ) → t .larger * 2 ^ t .gap * 2 ^ t .shift ≡ A → t .smaller * 2 ^ t .shift ≡ B → sizeOf t ≡ cond (t .opposite) (A - B) (A + B)
+unfolding sizeOf
+size-is t A B a b = go (t .opposite)
+  where
+    go : (o : Bool) → cond o (t .larger * 2 ^ t .gap - t .smaller) (t .larger * 2 ^ t .gap + t .smaller) * 2 ^ t .shift ≡ cond o (A - B) (A + B)
+    go true = mul-comm (t .larger * 2 ^ t .gap - t .smaller) (2 ^ t .shift) ∙ mul-sub (2 ^ t .shift) (t .larger * 2 ^ t .gap) (t .smaller) ∙ omega arith
+    go false = omega arith
+
 module _ (f m n : ℕ) (negative opposite : Bool) (h : n ≤ m) where
-  abbrev e : Exact
+  abbrev pub e : Exact
   e = exactOf f negative opposite m n
 
-  large : e .larger * 2 ^ e .gap * 2 ^ e .shift ≡ magnitude f m
+  pub large : e .larger * 2 ^ e .gap * 2 ^ e .shift ≡ magnitude f m
   large = omega (arith, magnitude-parts f m, ap (λ (x : ℕ). e .larger * x) (pow-gap (shift f n) (shift f m) (shift-le f m n h)))
 
   pub size-exact : sizeOf e ≡ cond opposite (magnitude f m - magnitude f n) (magnitude f m + magnitude f n)
-  unfolding sizeOf
-  size-exact = go opposite
-    where
-      go : (b : Bool) → cond b (e .larger * 2 ^ e .gap - e .smaller) (e .larger * 2 ^ e .gap + e .smaller) * 2 ^ e .shift ≡ cond b (magnitude f m - magnitude f n) (magnitude f m + magnitude f n)
-      go true = mul-comm (e .larger * 2 ^ e .gap - e .smaller) (2 ^ e .shift) ∙ mul-sub (2 ^ e .shift) (e .larger * 2 ^ e .gap) (e .smaller) ∙ omega (arith, large, magnitude-parts f n)
-      go false = omega (arith, large, magnitude-parts f n)
+  size-exact = size-is e (magnitude f m) (magnitude f n) large (sym (magnitude-parts f n))
+
+  pub top : e .gap + e .shift ≡ shift f m
+  top = omega (arith, shift-le f m n h)
+
+  pub low : m ≤ 2 ^ 63 → Low f e
+  low l = omega (arith, parts f m .is, ap (λ (x : ℕ). x * 2 ^ f) top)
 
   pub shaped : m ≤ 2 ^ 63 → Shaped f e
   shaped l =
       let a = parts f m in
       let b = parts f n in
-      let z : e .gap + e .shift ≡ shift f m = omega (arith, shift-le f m n h) in
       let o : e .smaller * 2 ^ e .shift ≤ e .larger * 2 ^ e .gap * 2 ^ e .shift = omega (arith, large, magnitude-parts f n, magnitude-le f n m h) in
       record {
         larger = a .below;
         smaller = b .below;
-        leading = elim (a .counted) [ inl z ↦ inl (omega arith) | inr g ↦ inr g ];
+        leading = elim (a .counted) [ inl z ↦ inl (omega (arith, top)) | inr g ↦ inr g ];
         order = le-of-mul-le-mul-right {k = 2 ^ e .shift} o (pow-pos (e .shift));
-        height = omega (arith, a .is, ap (λ (x : ℕ). x * 2 ^ f) z);
+        height = le-trans (le-mul (e .gap + e .shift) (2 ^ f) (pow-pos f)) (low l);
       }
+    where
+      le-mul : (x k : ℕ) → 0 < k → x ≤ x * k
+      le-mul x k p = omega (arith, mul-le-mul-left x p)
 
 -- A is at least B, with the signs s and t
 abbrev pub apart : Bool → Bool → Bool
@@ -114,24 +126,26 @@ module _ (F : Format) (x a : ℕ) (ok : Sound F) (X : Finite F x) (A : Finite F 
       let o = apart (ltb x t) (ltb a t) in
       let p = signs F ok x in
       let q = signs F ok a in
+      let high : m ≤ 2 ^ 63 = omega (arith, ok .sign, ok .infinity, ok .word, X .low, X .high, infinity-lt-sign f (F .exponent)) in
       record {
         up = ap (cond s 0) (size-exact f m n s o h) ∙ signed-up s (ltb a t) (magnitude f m) (magnitude f n) (magnitude-le f n m h) ∙ sym (ap₂ _-_ (ap₂ _+_ (p .0) (q .0)) (ap₂ _+_ (p .1) (q .1)));
         down = ap (λ (z : ℕ). cond s z 0) (size-exact f m n s o h) ∙ signed-down s (ltb a t) (magnitude f m) (magnitude f n) (magnitude-le f n m h) ∙ sym (ap₂ _-_ (ap₂ _+_ (p .1) (q .1)) (ap₂ _+_ (p .0) (q .0)));
-        shaped = shaped f m n s o h (omega (arith, ok .sign, ok .infinity, ok .word, X .low, X .high, infinity-lt-sign f (F .exponent)));
+        shaped = shaped f m n s o h high;
+        low = low f m n s o h high;
       }
 
   pub exact-first : (m n : ℕ) (e : Exact) → m ≡ fromZero F x → n ≡ fromZero F a → n ≤ m → e ≡ exactOf f (ltb x t) (apart (ltb x t) (ltb a t)) m n → Exactly F x a e
   exact-first m n e M N h E =
       subst (Exactly F x a) (sym (E ∙ ap₂ (exactOf f (ltb x t) (apart (ltb x t) (ltb a t))) M N)) (exact-at (omega arith))
 
-apart-comm : (s t : Bool) → apart s t ≡ apart t s
+pub apart-comm : (s t : Bool) → apart s t ≡ apart t s
 apart-comm true true = refl
 apart-comm true false = refl
 apart-comm false true = refl
 apart-comm false false = refl
 
 swapped : (F : Format) (x a : ℕ) (e : Exact) → Exactly F a x e → Exactly F x a e
-swapped F x a e h = record { up = h .up ∙ omega arith; down = h .down ∙ omega arith; shaped = h .shaped }
+swapped F x a e h = record { up = h .up ∙ omega arith; down = h .down ∙ omega arith; shaped = h .shaped; low = h .low }
 
 pub exact-second : (F : Format) (x a : ℕ) → Sound F → Finite F x → Finite F a → (m n : ℕ) (e : Exact) → m ≡ fromZero F x → n ≡ fromZero F a → m < n
     → e ≡ exactOf (F .fraction) (ltb a (F .sign)) (apart (ltb x (F .sign)) (ltb a (F .sign))) n m → Exactly F x a e

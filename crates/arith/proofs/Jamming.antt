@@ -9,8 +9,7 @@ use lib.Pow.{pow-pos, pow-add, pow-mono}
 use Rattle.ladder.proofs.Cases.{le-or-lt}
 use Rattle.arith.specs.declared.exact.Exact.{Exact}
 use Rattle.arith.specs.declared.rounding.Scaled.{Scaled}
-use Rattle.arith.specs.Exacts.{roundingOf, joinedOf, sizeOf, Shaped, Scales, Fraction}
-use Rattle.arith.proofs.Roundings.{rounding-sticky}
+use Rattle.arith.specs.Exacts.{joinedOf, sizeOf, Shaped, Alike, same, sticky, Scales, Digits}
 
 sub-mul : (a b c : ℕ) → (a - b) * c ≡ a * c - b * c
 sub-mul a b c = mul-comm (a - b) c ∙ mul-sub c a b ∙ omega arith
@@ -67,34 +66,34 @@ module _ (f g i P Q : ℕ) (some : 1 ≤ f) (big : 2 ^ f ≤ P) (few : Q < 2 * 2
   uv = mul-pos (pow-pos g) (pow-pos i)
 
   -- only a sticky bit below a, where a has a digit more than a place keeps
-  stuck : (a b c : ℕ) → 2 * 2 ^ f ≤ a → 0 < b → b < 2 * u * v → 0 < c → c < 2 * u * v → roundingOf f (a * (2 * u * v) + b) ≡ roundingOf f (a * (2 * u * v) + c)
-  stuck a b c = subst (λ (w : ℕ). 2 * 2 ^ f ≤ a → 0 < b → b < w → 0 < c → c < w → roundingOf f (a * w + b) ≡ roundingOf f (a * w + c)) wide (rounding-sticky f (suc g + i) a b c some)
+  stuck : (a b c n m : ℕ) → 2 * 2 ^ f ≤ a → 0 < b → b < 2 * u * v → 0 < c → c < 2 * u * v → n ≡ a * (2 * u * v) + b → m ≡ a * (2 * u * v) + c → Alike f n m
+  stuck a b c n m big B B' C C' N M =
+      sticky (suc g + i) a b c big B (omega (arith, wide)) C (omega (arith, wide)) (N ∙ ap (λ (w : ℕ). a * w + b) (sym wide)) (M ∙ ap (λ (w : ℕ). a * w + c) (sym wide))
 
-  at : (s : ℕ) → ((L ≡ 0) × (s ≡ 0)) ⊎ ((0 < L) × (s ≡ 1)) → (b : Bool) → roundingOf f (cond b (16 * P - (2 * K + s)) (16 * P + (2 * K + s)) * (v * u)) ≡ roundingOf f (cond b (P * (u * 16) - Q) (P * (u * 16) + Q) * v)
-  at s (inl z) true = ap (λ (x : ℕ). roundingOf f ((16 * P - (2 * K + x)) * (v * u))) (z .1) ∙ ap (roundingOf f) (sub-even P K L Q u v q (z .0))
-  at s (inl z) false = ap (λ (x : ℕ). roundingOf f ((16 * P + (2 * K + x)) * (v * u))) (z .1) ∙ ap (roundingOf f) (add-even P K L Q u v q (z .0))
+  at : (s : ℕ) → ((L ≡ 0) × (s ≡ 0)) ⊎ ((0 < L) × (s ≡ 1)) → (b : Bool) → Alike f (cond b (16 * P - (2 * K + s)) (16 * P + (2 * K + s)) * (v * u)) (cond b (P * (u * 16) - Q) (P * (u * 16) + Q) * v)
+  at s (inl z) true = same (ap (λ (x : ℕ). (16 * P - (2 * K + x)) * (v * u)) (z .1) ∙ sub-even P K L Q u v q (z .0))
+  at s (inl z) false = same (ap (λ (x : ℕ). (16 * P + (2 * K + x)) * (v * u)) (z .1) ∙ add-even P K L Q u v q (z .0))
   at s (inr z) true =
       let h : K + 1 ≤ 8 * P = omega (arith, half, pow-pos f) in
       let l : L ≤ 2 * u = omega (arith, low) in
-      ap (λ (x : ℕ). roundingOf f ((16 * P - (2 * K + x)) * (v * u))) (z .1) ∙ ap (roundingOf f) (sub-near P K L Q u v q h)
-      ∙ stuck (8 * P - (K + 1)) (u * v) ((2 * u - L) * v) (omega (arith, half)) uv (omega (arith, uv))
+      stuck (8 * P - (K + 1)) (u * v) ((2 * u - L) * v) _ _ (omega (arith, half)) uv (omega (arith, uv))
       (omega (arith, sub-mul (2 * u) L v, mul-lt-mul-of-pos-right low (pow-pos i)))
       (omega (arith, sub-mul (2 * u) L v, mul-lt-mul-of-pos-right low (pow-pos i), mul-pos (z .0) (pow-pos i)))
-      ∙ ap (roundingOf f) (sym (sub-true P K L Q u v q h l))
+      (ap (λ (x : ℕ). (16 * P - (2 * K + x)) * (v * u)) (z .1) ∙ sub-near P K L Q u v q h)
+      (sub-true P K L Q u v q h l)
   at s (inr z) false =
-      ap (λ (x : ℕ). roundingOf f ((16 * P + (2 * K + x)) * (v * u))) (z .1) ∙ ap (roundingOf f) (add-near P K L Q u v q)
-      ∙ stuck (8 * P + K) (u * v) (L * v) (omega arith) uv (omega (arith, uv)) (mul-pos (z .0) (pow-pos i)) (omega (arith, mul-lt-mul-of-pos-right low (pow-pos i)))
-      ∙ ap (roundingOf f) (sym (add-true P K L Q u v q))
+      stuck (8 * P + K) (u * v) (L * v) _ _ (omega arith) uv (omega (arith, uv)) (mul-pos (z .0) (pow-pos i)) (omega (arith, mul-lt-mul-of-pos-right low (pow-pos i)))
+      (ap (λ (x : ℕ). (16 * P + (2 * K + x)) * (v * u)) (z .1) ∙ add-near P K L Q u v q)
+      (add-true P K L Q u v q)
 
-  pub jam : (b : Bool) → roundingOf f (cond b (16 * P - (2 * K + min L 1)) (16 * P + (2 * K + min L 1)) * 2 ^ (i + g)) ≡ roundingOf f (cond b (P * 2 ^ (g + 4) - Q) (P * 2 ^ (g + 4) + Q) * 2 ^ i)
+  pub jam : (b : Bool) → Alike f (cond b (16 * P - (2 * K + min L 1)) (16 * P + (2 * K + min L 1)) * 2 ^ (i + g)) (cond b (P * 2 ^ (g + 4) - Q) (P * 2 ^ (g + 4) + Q) * 2 ^ i)
   jam b =
-      ap (λ (x : ℕ). roundingOf f (cond b (16 * P - (2 * K + min L 1)) (16 * P + (2 * K + min L 1)) * x)) (pow-add 2 i g)
-      ∙ at (min L 1) (elim (le-or-lt L 0) [ inl l ↦ inl (omega arith) | inr l ↦ inr (omega arith) ]) b
-      ∙ ap (λ (x : ℕ). roundingOf f (cond b (P * x - Q) (P * x + Q) * 2 ^ i)) (sym (pow-add 2 g 4))
+      rw (pow-add 2 i g, pow-add 2 g 4)
+      (at (min L 1) (elim (le-or-lt L 0) [ inl l ↦ inl (omega arith) | inr l ↦ inr (omega arith) ]) b)
 
 -- ---- what `scale` makes
-module _ (f : ℕ) (e : Exact) (ok : Fraction f) (h : Shaped f e) where
-  pub few : 2 ^ f ≤ 2 ^ 52
+module _ (f : ℕ) (e : Exact) (ok : Digits f) (h : Shaped f e) where
+  pub few : 2 ^ f ≤ 2 ^ 53
   few = pow-mono (ok .1)
 
   pub near-fits : e .gap ≤ 3 → (e .larger * 2 ^ e .gap + e .smaller < 2 ^ 64)
@@ -104,7 +103,7 @@ module _ (f : ℕ) (e : Exact) (ok : Fraction f) (h : Shaped f e) where
   unfolding sizeOf
   scale-near u r U R =
       subst (Scales f e) (sym (R ∙ ap (λ (x : ℕ). joinedOf (e .opposite) x (e .smaller) (e .shift)) U))
-      (record { rounds = refl; height = omega (arith, h .height) })
+      (record { alike = same refl; low = omega arith })
 
   abbrev jammed : ℕ → ℕ
   jammed d = 2 * (e .smaller / 2 ^ d) + min (e .smaller % 2 ^ d) 1
@@ -138,6 +137,6 @@ module _ (f : ℕ) (e : Exact) (ok : Fraction f) (h : Shaped f e) where
       in
       subst (Scales f e) (sym E)
       (record {
-        rounds = jam f g i P Q (ok .0) big (h .smaller) o ∙ ap (λ (x : ℕ). roundingOf f (cond o (P * 2 ^ x - Q) (P * 2 ^ x + Q) * 2 ^ i)) z3;
-        height = omega (arith, h .height, mul-le-mul-right (2 ^ f) low);
+        alike = subst (λ (x : ℕ). Alike f (cond o (16 * P - (2 * (Q / 2 ^ suc g) + min (Q % 2 ^ suc g) 1)) (16 * P + (2 * (Q / 2 ^ suc g) + min (Q % 2 ^ suc g) 1)) * 2 ^ (i + g)) (cond o (P * 2 ^ x - Q) (P * 2 ^ x + Q) * 2 ^ i)) z3 (jam f g i P Q (ok .0) big (h .smaller) o);
+        low = low;
       })

@@ -5,9 +5,11 @@ pub mod Intervals
 pub mod Decoding
 pub mod Roundings
 pub mod Jamming
+pub mod Halving
+pub mod Crossing
+pub mod Thresholds
 pub mod Answers
 pub mod Clamping
-pub mod Probing
 pub mod Bounds
 pub mod Narrowings
 pub mod Callers

@@ -19,7 +19,7 @@ use Rattle.ladder.proofs.Magnitude.{magnitude-is}
 use Rattle.ladder.proofs.Rounding.{round-magnitude, even-pow}
 use Rattle.ladder.proofs.Multiples.{magnitude-dvd}
 use Rattle.ladder.proofs.Sticky.{round-sticky, round-scale}
-use Rattle.arith.specs.Exacts.{roundingOf}
+use Rattle.arith.specs.Exacts.{roundingOf, Alike, same, sticky}
 
 pub rounding-is : (f n p : ℕ) (b : Bool) → round f n ≡ p → eqb (magnitude f (round f n)) n ≡ b → record { place = p; exact = b } ≡ roundingOf f n
 unfolding roundingOf
@@ -43,6 +43,10 @@ rounding-sticky f j a b c some big B B' C C' =
     let no : (d : ℕ) → 0 < d → d < 2 ^ j → eqb (magnitude f (round f (a * 2 ^ j + d))) (a * 2 ^ j + d) ≡ false = λ d D D'. ne-eqb _ _ (inexact f j a d (round f (a * 2 ^ j + d)) (omega arith) D D') in
     sym (rounding-is f (a * 2 ^ j + b) (round f (a * 2 ^ j + c)) false (round-sticky f some j a b c big B B' C C') (no b B B'))
     ∙ rounding-is f (a * 2 ^ j + c) (round f (a * 2 ^ j + c)) false refl (no c C C')
+
+pub rounding-alike : (f n m : ℕ) → 1 ≤ f → Alike f n m → roundingOf f n ≡ roundingOf f m
+rounding-alike f n m some (same e) = ap (roundingOf f) e
+rounding-alike f n m some (sticky j a b c big B B' C C' N M) = ap (roundingOf f) N ∙ rounding-sticky f j a b c some big B B' C C' ∙ sym (ap (roundingOf f) M)
 
 -- ---- the quotient, by how twice the rest compares
 module _ (n d : ℕ) where

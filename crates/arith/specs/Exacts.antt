@@ -34,19 +34,28 @@ exactOf f negative opposite m n =
 unfoldable pub sizeOf : Exact → ℕ
 sizeOf t = cond (t .opposite) (t .larger * 2 ^ t .gap - t .smaller) (t .larger * 2 ^ t .gap + t .smaller) * 2 ^ t .shift
 
--- what rounding relies on: both significands have at most f + 1 digits, a gap is below a normal number, and the exponent is one of the format
-pub record Shaped (f : ℕ) (t : Exact) : Type 0 where
-  pub larger : t .larger < 2 * 2 ^ f
-  pub smaller : t .smaller < 2 * 2 ^ f
-  pub leading : (t .gap ≡ 0) ⊎ (2 ^ f ≤ t .larger)
+-- what rounding relies on: both significands have at most d + 1 digits, a gap is below a number that has them all, and the exponent fits a word
+pub record Shaped (d : ℕ) (t : Exact) : Type 0 where
+  pub larger : t .larger < 2 * 2 ^ d
+  pub smaller : t .smaller < 2 * 2 ^ d
+  pub leading : (t .gap ≡ 0) ⊎ (2 ^ d ≤ t .larger)
   pub order : t .smaller ≤ t .larger * 2 ^ t .gap
-  pub height : (t .gap + t .shift) * 2 ^ f ≤ 2 ^ 63
+  pub height : t .gap + t .shift ≤ 2 ^ 63
 
--- t is the exact sum of the ordinals x and a: as many units above zero, or below it, as they make together
-pub record Exactly (F : Format) (x a : ℕ) (t : Exact) : Type 0 where
-  pub up : cond (t .negative) 0 (sizeOf t) ≡ gains (F .fraction) (F .exponent) x a - losses (F .fraction) (F .exponent) x a
-  pub down : cond (t .negative) (sizeOf t) 0 ≡ losses (F .fraction) (F .exponent) x a - gains (F .fraction) (F .exponent) x a
-  pub shaped : Shaped (F .fraction) t
+-- the exponent is one of a format with f fraction bits
+abbrev pub Low : ℕ → Exact → Type 0
+Low f t = (t .gap + t .shift) * 2 ^ f ≤ 2 ^ 63
+
+-- t is p - n units, above zero or below it
+pub record Amounts (f d p n : ℕ) (t : Exact) : Type 0 where
+  pub up : cond (t .negative) 0 (sizeOf t) ≡ p - n
+  pub down : cond (t .negative) (sizeOf t) 0 ≡ n - p
+  pub shaped : Shaped d t
+  pub low : Low f t
+
+-- t is the exact sum of the ordinals x and a: as many units as they make together
+abbrev pub Exactly : Format → ℕ → ℕ → Exact → Type 0
+Exactly F x a = Amounts (F .fraction) (F .fraction) (gains (F .fraction) (F .exponent) x a) (losses (F .fraction) (F .exponent) x a)
 
 -- ---- step 2: rounding
 -- n units rounded to the nearest m, and whether nothing was lost
@@ -57,11 +66,20 @@ roundingOf f n = record { place = round f n; exact = eqb (magnitude f (round f n
 abbrev pub joinedOf : Bool → ℕ → ℕ → ℕ → Scaled
 joinedOf opposite larger smaller shift = record { significand = cond opposite (larger - smaller) (larger + smaller); shift = shift }
 
+-- n and m are the same, or agree in more than d + 1 digits and below these both have something: no rounding to d + 1 digits tells them apart
+pub data Alike (d n m : ℕ) : Type 0 where
+  same : n ≡ m → Alike d n m
+  sticky : (j a b c : ℕ) → 2 * 2 ^ d ≤ a → 0 < b → b < 2 ^ j → 0 < c → c < 2 ^ j → n ≡ a * 2 ^ j + b → m ≡ a * 2 ^ j + c → Alike d n m
+
 -- s fits a word and rounds as the exact sum t does
-pub record Scales (f : ℕ) (t : Exact) (s : Scaled) : Type 0 where
-  pub rounds : roundingOf f (s .significand * 2 ^ s .shift) ≡ roundingOf f (sizeOf t)
-  pub height : s .shift * 2 ^ f ≤ 2 ^ 63
+pub record Scales (d : ℕ) (t : Exact) (s : Scaled) : Type 0 where
+  pub alike : Alike d (s .significand * 2 ^ s .shift) (sizeOf t)
+  pub low : s .shift ≤ t .gap + t .shift
 
 -- how many fraction bits a word has room for
 abbrev pub Fraction : ℕ → Type 0
 Fraction f = (1 ≤ f) × (f ≤ 52)
+
+-- and how many digits beside the first a significand may have
+abbrev pub Digits : ℕ → Type 0
+Digits d = (1 ≤ d) × (d ≤ 53)

@@ -3,6 +3,7 @@ pub mod Formats
 pub mod Exacts
 pub mod Sums
 pub mod Intervals
+pub mod Thresholds
 pub mod Searches
 pub mod Narrows
 pub mod Floating

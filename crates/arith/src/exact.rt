@@ -42,7 +42,7 @@ fn decode(fraction: u64, m: u64) -> Parts
 }
 
 // How far an ordinal is from zero's.
-fn distance_from_zero(format: Format, r: u64) -> u64
+pub(crate) fn distance_from_zero(format: Format, r: u64) -> u64
     ensures { λ m. ⌜ m ≡ (r - format .sign) + (format .sign - r) ⌝ }
 {
     if r < format.sign {
@@ -52,7 +52,7 @@ fn distance_from_zero(format: Format, r: u64) -> u64
 }
 
 // m is at least n, and negative its sign.
-fn combine(fraction: u64, negative: bool, opposite: bool, m: u64, n: u64) -> Exact
+pub(crate) fn combine(fraction: u64, negative: bool, opposite: bool, m: u64, n: u64) -> Exact
     requires { ⌜ (fraction ≤ 52) × (n ≤ m) ⌝ }
     ensures { λ r. ⌜ r ≡ exactOf fraction negative opposite m n ⌝ }
 {

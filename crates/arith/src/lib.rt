@@ -15,4 +15,5 @@ pub mod refusal;
 mod rounding;
 mod solve;
 pub mod sum;
+mod threshold;
 mod words;

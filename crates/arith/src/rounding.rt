@@ -2,7 +2,7 @@
 ghost use mathlib.Core.Path.{_≡_};
 ghost use Prim.Native.Nat.{_+_, _-_, _*_, _≤_, _<_, _^_};
 ghost use lib.Ieee.{size};
-ghost use Rattle.arith.specs.Exacts.{Shaped, Scales, sizeOf, joinedOf, roundingOf, Fraction};
+ghost use Rattle.arith.specs.Exacts.{Shaped, Low, Scales, sizeOf, joinedOf, roundingOf, Fraction, Digits};
 use crate::exact::Exact;
 use crate::words::digits;
 use crate::words::dropped;
@@ -40,8 +40,8 @@ fn join(opposite: bool, larger: u64, smaller: u64, shift: u64) -> Scaled
 }
 
 // One word that rounds as the exact sum does. Where the gap is wider than three, of smaller's digits below one guard digit only the sticky one is kept.
-fn scale(fraction: u64, t: Exact) -> Scaled
-    requires { ⌜ (Fraction fraction) × (Shaped fraction t) ⌝ }
+pub(crate) fn scale(fraction: u64, t: Exact) -> Scaled
+    requires { ⌜ (Digits fraction) × (Shaped fraction t) ⌝ }
     ensures { λ r. ⌜ Scales fraction t r ⌝ }
 {
     let gap = t.gap;
@@ -119,7 +119,7 @@ fn round_units(fraction: u64, n: u64, shift: u64) -> Rounded
 
 // The exact sum, rounded.
 pub(crate) fn round_sum(fraction: u64, t: Exact) -> Rounded
-    requires { ⌜ (Fraction fraction) × (Shaped fraction t) ⌝ }
+    requires { ⌜ (Fraction fraction) × (Shaped fraction t) × (Low fraction t) ⌝ }
     ensures { λ r. ⌜ r ≡ roundingOf fraction (sizeOf t) ⌝ }
 {
     let s = scale(fraction, t);

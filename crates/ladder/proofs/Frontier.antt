@@ -2,30 +2,17 @@
 -- monotone and commutative is used. Assumes nothing.
 use mathlib.Core.Path.{refl, subst}
 use mathlib.Core.Logic.{inl, inr}
-use Prim.Native.Nat.{ℕ, _+_, _-_, _≤_, _<_}
+use Prim.Native.Nat.{ℕ, _-_, _≤_, _<_}
 use native.Mathlib.Nat.{le-refl, le-trans}
 use native.Mathlib.Omega.{arith}
 use Rattle.ladder.specs.Sum.{sum}
 use Rattle.ladder.specs.Solution.{Interval}
 use Rattle.ladder.specs.Narrowing.{HasX}
-use Rattle.ladder.specs.Search.{Never, Least, Bracket, Attains, Frontier, Leading}
+use Rattle.ladder.specs.Search.{Never, Least, Attains, Frontier, Leading}
 use Rattle.ladder.proofs.Cases.{le-or-lt}
 use Rattle.ladder.proofs.Sum.{sum-comm, sum-mono}
-use Rattle.ladder.proofs.Extremes.{bracket-lower, bracket-raise}
 
 module _ (f e : ℕ) (some : 1 ≤ f) where
-  -- ---- one operand
-  pub sum-below : (p a b y : ℕ) → sum f e p a < b → y ≤ p → b ≤ sum f e y a → ⊥
-  sum-below p a b y h l g = omega (arith, sum-mono f e some y p a a l (le-refl a))
-
-  -- a probe p between the brackets, and how its sum with a compares
-  module _ (a b l h p : ℕ) (I : Interval) (r : Bracket (Attains f e a b I) l h) where
-    pub probe-low : sum f e p a < b → Bracket (Attains f e a b I) (p + 1) h
-    probe-low g = bracket-raise p r (λ y t i j. sum-below p a b y g j (t .enough))
-
-    pub probe-high : I .low ≤ l → l ≤ p → p < h → b ≤ sum f e p a → Bracket (Attains f e a b I) l p
-    probe-high k i j g = let t = r .holds .inside in bracket-lower r (record { inside = record { low = omega arith; high = omega arith }; enough = g })
-
   -- ---- the least x
   module _ (X A B : Interval) where
     -- an x in a triple reaches B with A's high end

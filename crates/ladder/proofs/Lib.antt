@@ -3,6 +3,7 @@ pub mod Magnitude
 pub mod Rounding
 pub mod Central
 pub mod Multiples
+pub mod Digits
 pub mod Sticky
 pub mod Ordinals
 pub mod Sum
@@ -11,6 +12,7 @@ pub mod Overflow
 pub mod Nearest
 pub mod Values
 pub mod Truncation
+pub mod Threshold
 pub mod Ieee
 pub mod Standard
 pub mod Extents

@@ -5,7 +5,7 @@ use Prim.Native.Nat.{ℕ, zero, suc, _+_, _-_, _*_, _/_, _%_, _^_, _≤_, _<_}
 use native.Mathlib.Nat.{eq-or-lt-of-le, le-of-suc-le-suc, mod-lt, div-add-mod', not-suc-le-zero, lt-trans, pow-succ', le-of-eq, le-of-lt, lt-of-not-le, not-le-of-lt}
 use native.Mathlib.Omega.{arith}
 use lib.Arith.{digits-div, digits-mod}
-use lib.Pow.{pow-pos, shr-mono}
+use lib.Pow.{pow-pos, pow-add, shr-mono}
 use Rattle.ladder.specs.Magnitude.{scaled, magnitude, shift, significand}
 use Rattle.ladder.proofs.Cases.{le-or-lt}
 
@@ -61,6 +61,16 @@ magnitude-parts f m = let p = parts f m in ap (magnitude f) (p .is) ∙ magnitud
 pub shift-le : (f m n : ℕ) → n ≤ m → shift f n ≤ shift f m
 unfolding shift
 shift-le f m n h = omega (arith, shr-mono f h)
+
+-- t binades up
+pub magnitude-shift : (f t m : ℕ) → 2 ^ f ≤ m → magnitude f (t * 2 ^ f + m) ≡ magnitude f m * 2 ^ t
+magnitude-shift f t m h =
+    let p = parts f m in
+    let k = shift f m in
+    let q = significand f m in
+    let l : 2 ^ f ≤ q = elim (p .counted) [ inl e ↦ omega (arith, p .is, ap (λ (x : ℕ). x * 2 ^ f) e) | inr l ↦ l ] in
+    ap (magnitude f) (omega (arith, p .is)) ∙ magnitude-is f (t + k) q (inr l) (omega (arith, p .below))
+    ∙ omega (arith, ap (λ (x : ℕ). q * x) (pow-add 2 t k), ap (λ (x : ℕ). x * 2 ^ t) (magnitude-parts f m))
 
 -- ---- one ulp up, and order
 pub magnitude-suc : (f m : ℕ) → magnitude f (suc m) ≡ magnitude f m + 2 ^ shift f m

@@ -11,12 +11,16 @@ use Rattle.ladder.proofs.Cases.{le-or-lt, trichotomy}
 use Rattle.ladder.proofs.Magnitude.{magnitude-lt, magnitude-le, magnitude-zero}
 use Rattle.ladder.proofs.Rounding.{even-pow}
 
-pub infinity-lt-sign : (f e : ℕ) → infinity f e < sign f e
+-- one binade from infinity's pattern to the sign bit
+pub sign-is : (f e : ℕ) → infinity f e + 2 ^ f ≡ sign f e
 unfolding sign infinity
-infinity-lt-sign f e = omega (arith, pow-add 2 f e, sub-one (2 ^ e) (2 ^ f) (pow-pos e), pow-pos f)
+sign-is f e = omega (arith, pow-add 2 f e, sub-one (2 ^ e) (2 ^ f) (pow-pos e))
   where
     sub-one : (a b : ℕ) → 0 < a → (a - 1) * b + b ≡ a * b
     sub-one a b p = let z : a ≡ (a - 1) + 1 = omega arith in sym (ap (λ (x : ℕ). x * b) z ∙ omega arith)
+
+pub infinity-lt-sign : (f e : ℕ) → infinity f e < sign f e
+infinity-lt-sign f e = omega (arith, sign-is f e, pow-pos f)
 
 pub sign-even : (f e : ℕ) → 1 ≤ f → sign f e ≡ 2 * 2 ^ (f + e - 1)
 unfolding sign

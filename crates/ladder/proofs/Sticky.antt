@@ -6,11 +6,12 @@ use native.Mathlib.Nat.{le-refl, le-antisymm, le-trans, lt-of-lt-of-le, lt-of-no
 use native.Mathlib.Omega.{arith}
 use lib.Pow.{pow-pos, pow-add, pow-mono}
 use lib.Ieee.{size}
-use lib.Ieee.Digits.{size-lt, size-le, size-reaches}
+use lib.Ieee.Digits.{size-lt}
 use lib.Ieee.Nearest.{closest, closest-same}
 use Rattle.ladder.specs.Magnitude.{magnitude, shift, significand}
 use Rattle.ladder.specs.Rounding.{excess, round}
 use Rattle.ladder.proofs.Cases.{le-or-lt}
+use Rattle.ladder.proofs.Digits.{size-scale}
 use Rattle.ladder.proofs.Magnitude.{parts, magnitude-parts, magnitude-suc}
 use Rattle.ladder.proofs.Central.{round-le}
 
@@ -45,16 +46,6 @@ module _ (f : ℕ) (some : 1 ≤ f) where
   round-sticky j a b c big B B' C C' = le-antisymm (one-way j a c b big C B') (one-way j a b c big B C')
 
 -- ---- a shift of a number that has all its digits
-size-scale : (n t : ℕ) → 0 < n → size (n * 2 ^ t) ≡ size n + t
-size-scale n t N =
-    let z = size n in
-    let p : 0 < z = lt-of-not-le (λ (g : z ≤ 0). not-le-of-lt (lt-of-lt-of-le (size-lt n) (pow-mono g)) N) in
-    let lo : 2 ^ (z - 1) * 2 ^ t ≤ n * 2 ^ t = mul-le-mul-right (2 ^ t) (size-reaches n (z - 1) (omega arith)) in
-    let hi : n * 2 ^ t < 2 ^ z * 2 ^ t = mul-lt-mul-of-pos-right (size-lt n) (pow-pos t) in
-    let a : size (n * 2 ^ t) ≤ z + t = size-le (n * 2 ^ t) (z + t) (omega (arith, pow-add 2 z t)) in
-    let b : z - 1 + t < size (n * 2 ^ t) = lt-of-not-le (λ (g : size (n * 2 ^ t) ≤ z - 1 + t). not-le-of-lt (lt-of-lt-of-le (size-lt (n * 2 ^ t)) (pow-mono g)) (omega (arith, pow-add 2 (z - 1) t))) in
-    omega arith
-
 pub round-scale : (f n t : ℕ) → 2 ^ f ≤ n → round f (n * 2 ^ t) ≡ t * 2 ^ f + round f n
 unfolding round excess
 round-scale f n t h =

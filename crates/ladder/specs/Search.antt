@@ -1,8 +1,9 @@
 -- What the search for the ends of a narrowing finds on its way, each by what holds of it: the least number with a property, the least operand with a sum of at least b, the least x in a triple.
 -- Also the two images of an interval that the search uses: its mirror, and the interval without what is too coarse. Assumes nothing.
+use mathlib.Core.Logic.{_↔_}
 use Prim.Native.Nat.{ℕ, _+_, _-_, _*_, _^_, _≤_, _∣_, max}
 use Rattle.ladder.specs.Magnitude.{magnitude}
-use Rattle.ladder.specs.Ordinal.{sign, mirrored, Finite}
+use Rattle.ladder.specs.Ordinal.{sign, mirrored, Finite, above, below}
 use Rattle.ladder.specs.Sum.{sum}
 use Rattle.ladder.specs.Solution.{Interval, In, Solution}
 use Rattle.ladder.specs.Narrowing.{HasX}
@@ -31,6 +32,18 @@ pub record Bracket (P : ℕ → Type 0) (l h : ℕ) : Type 0 where
 pub record Attains (f e a b : ℕ) (I : Interval) (y : ℕ) : Type 0 where
   pub inside : In I y
   pub enough : b ≤ sum f e y a
+
+-- twice the midpoint of b and its lower neighbour, less twice a, which twice an operand must reach: so many units above zero
+abbrev pub crossingUp : ℕ → ℕ → ℕ → ℕ → ℕ
+crossingUp f e a b = above f e (b - 1) + above f e b + 2 * below f e a
+
+-- and so many below it
+abbrev pub crossingDown : ℕ → ℕ → ℕ → ℕ → ℕ
+crossingDown f e a b = below f e (b - 1) + below f e b + 2 * above f e a
+
+-- the operands with a sum of at least b are those from x on
+abbrev pub Threshold : ℕ → ℕ → ℕ → ℕ → ℕ → Type 0
+Threshold f e a b x = (y : ℕ) → (b ≤ sum f e y a) ↔ (x ≤ y)
 
 -- ---- the least x in a triple
 -- none is below x, and some a up to A's high end would make the sum large enough

@@ -2,8 +2,7 @@
 use borrow.Author.Needs.{needs}
 use native.Mathlib.Omega.{arith}
 use Prim.Native.Nat.{_-_, _≤_}
-use lib.Pow.{shr-le, pow-pos}
-use native.Mathlib.Nat.{mul-le-mul-left}
+use lib.Pow.{shr-le}
 use Rattle.arith.proofs.Jamming.{few, near-fits, scale-near, far-fits, far-order, scale-far}
 use Rattle.arith.proofs.rounding.scale.Statement.{statement}
 use Rattle.arith.proofs.rounding.scale.Tie as tie
@@ -54,7 +53,7 @@ add-join : tie.Need-add-join
 add-join c =
     let s = c .before .before .before .before .before in
     let e = s .args .t in
-    omega (arith, s .pre .1 .height, mul-le-mul-left (e .gap) (pow-pos (s .args .fraction)), mul-le-mul-left (e .shift) (pow-pos (s .args .fraction)))
+    omega (arith, s .pre .1 .height)
 
 join-requires-2 : tie.Need-join-requires-2
 join-requires-2 c κs =

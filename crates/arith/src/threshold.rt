@@ -1,0 +1,97 @@
+// The operand from which on the sum with a is at least b, without a search: twice the midpoint of b and the float below it, less twice a, is an exact difference; half of it, rounded up, is that operand.
+ghost use mathlib.Core.Path.{_≡_};
+ghost use Prim.Native.Nat.{_*_, _≤_, _<_, _^_};
+ghost use Rattle.arith.specs.Formats.{Sound, Finite};
+ghost use Rattle.arith.specs.Exacts.{Fraction};
+ghost use Rattle.arith.specs.Thresholds.{Crosses, doubledOf, halvedOf, Threshold};
+use crate::exact::Exact;
+use crate::exact::combine;
+use crate::exact::distance_from_zero;
+use crate::format::Format;
+use crate::rounding::Rounded;
+use crate::rounding::scale;
+use crate::words::digits;
+use crate::words::dropped;
+use crate::words::shift_left;
+use crate::words::shift_right;
+
+// In half units, with a half step added to one of the significands.
+fn double(t: Exact, first: u64, second: u64) -> Exact
+    requires { ⌜ (2 * (t .larger) < 2 ^ 63) × (2 * (t .smaller) < 2 ^ 63) × (first ≤ 1) × (second ≤ 1) ⌝ }
+    ensures { λ r. ⌜ r ≡ doubledOf first second t ⌝ }
+{
+    Exact {
+        negative: t.negative,
+        opposite: t.opposite,
+        larger: 2 * t.larger + first,
+        smaller: 2 * t.smaller + second,
+        gap: t.gap,
+        shift: t.shift,
+    }
+}
+
+// Twice the midpoint of b and the float below it, less twice a. The midpoint lies half a step beyond the one of the two that is nearer to zero.
+fn crossing(format: Format, a: u64, b: u64) -> Exact
+    requires { ⌜ (Sound format) × (Finite format a) × (Finite format b) ⌝ }
+    ensures { λ t. ⌜ Crosses format a b t ⌝ }
+{
+    let zero = format.sign;
+    let fraction = format.fraction;
+    let first = b <= zero;
+    let second = zero < a;
+    let m = if first { zero - b } else { b - zero - 1 };
+    let n = distance_from_zero(format, a);
+    if n <= m {
+        return double(combine(fraction, first, first != second, m, n), 1, 0);
+    }
+    double(combine(fraction, second, first != second, n, m), 0, 1)
+}
+
+// Half of n * 2^shift units, rounded toward zero.
+fn halve(fraction: u64, n: u64, shift: u64) -> Rounded
+    requires { ⌜ (Fraction fraction) × (shift * 2 ^ fraction ≤ 2 ^ 63) ⌝ }
+    ensures { λ r. ⌜ r ≡ halvedOf fraction (n * 2 ^ shift) ⌝ }
+{
+    if n == 0 {
+        return Rounded {
+            place: 0,
+            exact: true,
+        };
+    }
+    let size = digits(n) + shift;
+    let drop = if fraction + 2 < size {
+        size - (fraction + 2)
+    } else {
+        0
+    };
+    let base = shift_left(drop, fraction);
+    if drop + 1 < shift {
+        return Rounded {
+            place: base + shift_left(n, shift - (drop + 1)),
+            exact: true,
+        };
+    }
+    let low = drop + 1 - shift;
+    Rounded {
+        place: base + shift_right(n, low),
+        exact: dropped(n, low) == 0,
+    }
+}
+
+// The least operand with a sum of at least b.
+pub(crate) fn threshold(format: Format, a: u64, b: u64) -> u64
+    requires { ⌜ (Sound format) × (Finite format a) × (Finite format b) ⌝ }
+    ensures { λ x. ⌜ Threshold format a b x ⌝ }
+{
+    let zero = format.sign;
+    let fraction = format.fraction;
+    let t = crossing(format, a, b);
+    let s = scale(fraction + 1, t);
+    let r = halve(fraction, s.significand, s.shift);
+    if t.negative {
+        let up = if r.exact { b % 2 } else { 0 };
+        return zero + up - r.place;
+    }
+    let up = if r.exact { b % 2 } else { 1 };
+    zero + r.place + up
+}
