@@ -9,24 +9,20 @@ use lib.ListN.{length, getD, take, set, length-set}
 use Rattle.ladder.specs.Solution as S
 use Rattle.ladder.specs.Narrowing.{Narrowing, none, ends, narrowing}
 use Rattle.arith.specs.declared.interval.Interval.{Interval}
+use Rattle.arith.specs.declared.refusal.Refusal.{Refusal}
+use Rattle.arith.specs.declared.narrow.Narrowed.the-variants.{Ends, Refused}
 use Rattle.arith.specs.Formats.{isKnown, formatOf}
 use Rattle.arith.specs.Narrows.{narrowAnswer, narrowOf}
 use Rattle.arith.proofs.Valid.{valid-narrow, written-span, written-valid}
 use Rattle.sheet.specs.declared.kept.Record.{Record}
-use Rattle.sheet.specs.declared.passes.Stepped.{Stepped}
 use Rattle.sheet.specs.Cells.{fractionOf, exponentOf, patternsOf, boxOf}
 use Rattle.sheet.specs.Sheets.{noCell}
 use Rattle.sheet.specs.Boxes.{Box, at, IsBox, Names}
 use Rattle.sheet.specs.Runs.{Step, unsolved, left, put, stepBy, step, sameBox}
-use Rattle.sheet.specs.Steps.{places, boxIn, Shows, steppedBy, stepped, Compares}
+use Rattle.sheet.specs.Steps.{places, boxIn, Shows, Compares}
 use Rattle.sheet.proofs.Boxes.{equal-same, unequal-same}
-use Rattle.sheet.proofs.Demand.{stays-box, step-cases}
+use Rattle.sheet.proofs.Demand.{stays-box}
 use Rattle.sheet.proofs.Places.{bounded, place-at, place-set, box-found, places-show}
-
--- what a step gives, in places
-abbrev steppedOn : ℕ → ℕ → Box → Step → Stepped
-steppedOn width n box unsolved = record { solved = false; cells = places width n box }
-steppedOn width n box (left new) = record { solved = true; cells = places width n new }
 
 module _ (width n : ℕ) (known : isKnown width ≡ true) (r : Record) (names : Names n r) where
   -- the narrowing of the sum's cells is that of the box's intervals
@@ -54,48 +50,42 @@ module _ (width n : ℕ) (known : isKnown width ≡ true) (r : Record) (names : 
       ∙ ap (λ (l : List Interval). set l (r .b) (patternsOf width B)) (place-set width n (set box (r .x) X) (simp length-set size) (r .a) A (names .a-in))
       ∙ place-set width n (set (set box (r .x) X) (r .a) A) (simp length-set size) (r .b) B (names .b-in)
 
-  -- the step on the places of a box
-  stepped-is : (box : Box) → IsBox (fractionOf width) (exponentOf width) n box → stepped width (places width n box) r ≡ steppedOn width n box (step (fractionOf width) (exponentOf width) box r)
-  unfolding stepped step
-  stepped-is box is = ap (steppedBy (places width n box) r) (narrowed-is box is) ∙ go (narrowing (fractionOf width) (exponentOf width) (at box (r .x)) (at box (r .a)) (at box (r .b)))
-    where
-      go : (t : Narrowing) → steppedBy (places width n box) r (narrowAnswer (formatOf width) t) ≡ steppedOn width n box (stepBy box r t)
-      go none = refl
-      go (ends X A B) = ap (λ (l : List Interval). record { solved = true; cells = l }) (put-places box X A B (is .cells))
+  -- ---- a step on cells that stand for a box, by what the narrowing of its sum answers
+  module _ (cells : List Interval) (shows : Shows width n cells) where
+    abbrev box : Box
+    box = boxIn width n cells
 
-  -- and its box has nonempty intervals again
-  step-box : (box new : Box) → IsBox (fractionOf width) (exponentOf width) n box → step (fractionOf width) (exponentOf width) box r ≡ left new → IsBox (fractionOf width) (exponentOf width) n new
-  step-box box new is =
-      step-cases (fractionOf width) (exponentOf width) (λ s. s ≡ left new → IsBox (fractionOf width) (exponentOf width) n new) box r
-      (λ q z. absurd (let y : _≡_ {A = ℕ} 0 1 = cc in omega arith))
-      (λ X A B q z.
-      let y : put box r X A B ≡ new = cc in
-      subst (IsBox (fractionOf width) (exponentOf width) n) y (stays-box (fractionOf width) (exponentOf width) box r X A B q n names is))
+    abbrev solved : Narrowing
+    solved = narrowing (fractionOf width) (exponentOf width) (at box (r .x)) (at box (r .a)) (at box (r .b))
 
-  -- ---- a step on cells that stand for a box
-  module _ (cells : List Interval) (shows : Shows width n cells) (t : Stepped) (e : t ≡ stepped width cells r) where
-    on-box : t ≡ steppedOn width n (boxIn width n cells) (step (fractionOf width) (exponentOf width) (boxIn width n cells) r)
-    on-box = e ∙ ap (λ (l : List Interval). stepped width l r) (shows .held) ∙ stepped-is (boxIn width n cells) (shows .box)
+    answered : narrowOf width (getD cells (r .x) noCell) (getD cells (r .a) noCell) (getD cells (r .b) noCell) ≡ narrowAnswer (formatOf width) solved
+    answered = ap (λ (l : List Interval). narrowOf width (getD l (r .x) noCell) (getD l (r .a) noCell) (getD l (r .b) noCell)) (shows .held) ∙ narrowed-is box (shows .box)
 
-    pub step-off : t .solved ≡ false → step (fractionOf width) (exponentOf width) (boxIn width n cells) r ≡ unsolved
-    step-off s = go (step (fractionOf width) (exponentOf width) (boxIn width n cells) r) on-box
+    pub step-off : (q : Refusal) → narrowOf width (getD cells (r .x) noCell) (getD cells (r .a) noCell) (getD cells (r .b) noCell) ≡ Refused q → step (fractionOf width) (exponentOf width) box r ≡ unsolved
+    unfolding step
+    step-off q e = go solved (sym answered ∙ e)
       where
-        go : (u : Step) → t ≡ steppedOn width n (boxIn width n cells) u → u ≡ unsolved
-        go unsolved h = refl
-        go (left new) h =
-            let z : t .solved ≡ true = ap (λ (v : Stepped). v .solved) h in
-            absurd (let y : _≡_ {A = ℕ} 0 1 = cc in omega arith)
+        go : (t : Narrowing) → narrowAnswer (formatOf width) t ≡ Refused q → stepBy box r t ≡ unsolved
+        go none h = refl
+        go (ends X A B) h = absurd (let y : _≡_ {A = ℕ} 0 1 = cc in omega arith)
 
-    pub step-on : t .solved ≡ true → (step (fractionOf width) (exponentOf width) (boxIn width n cells) r ≡ left (boxIn width n (t .cells))) × Shows width n (t .cells)
-    step-on s = go (step (fractionOf width) (exponentOf width) (boxIn width n cells) r) refl on-box
+    -- the cells with the ends of the answer
+    abbrev cellsWith : Interval → Interval → Interval → List Interval
+    cellsWith X A B = set (set (set cells (r .x) X) (r .a) A) (r .b) B
+
+    pub step-on : (X A B : Interval) → narrowOf width (getD cells (r .x) noCell) (getD cells (r .a) noCell) (getD cells (r .b) noCell) ≡ Ends X A B → (step (fractionOf width) (exponentOf width) box r ≡ left (boxIn width n (cellsWith X A B))) × Shows width n (cellsWith X A B)
+    unfolding step
+    step-on X A B e = go solved refl (sym answered ∙ e)
       where
-        go : (u : Step) → step (fractionOf width) (exponentOf width) (boxIn width n cells) r ≡ u → t ≡ steppedOn width n (boxIn width n cells) u → (u ≡ left (boxIn width n (t .cells))) × Shows width n (t .cells)
-        go unsolved q h =
-            let z : t .solved ≡ false = ap (λ (v : Stepped). v .solved) h in
-            absurd (let y : _≡_ {A = ℕ} 0 1 = cc in omega arith)
-        go (left new) q h =
-            let c : t .cells ≡ places width n new = ap (λ (v : Stepped). v .cells) h in
-            let i = step-box (boxIn width n cells) new (shows .box) q in
+        go : (t : Narrowing) → solved ≡ t → narrowAnswer (formatOf width) t ≡ Ends X A B → (stepBy box r t ≡ left (boxIn width n (cellsWith X A B))) × Shows width n (cellsWith X A B)
+        go none q h = absurd (let y : _≡_ {A = ℕ} 0 1 = cc in omega arith)
+        go (ends X′ A′ B′) q h =
+            let new = put box r X′ A′ B′ in
+            let x : X ≡ patternsOf width X′ = cc in
+            let a : A ≡ patternsOf width A′ = cc in
+            let b : B ≡ patternsOf width B′ = cc in
+            let c : cellsWith X A B ≡ places width n new = rw (x, a, b) (ap (λ (l : List Interval). set (set (set l (r .x) (patternsOf width X′)) (r .a) (patternsOf width A′)) (r .b) (patternsOf width B′)) (shows .held) ∙ put-places box X′ A′ B′ (shows .box .cells)) in
+            let i = stays-box (fractionOf width) (exponentOf width) box r X′ A′ B′ q n names (shows .box) in
             (ap left (sym (box-found width n new i)) ∙ ap (λ (l : List Interval). left (boxIn width n l)) (sym c), subst (Shows width n) (sym c) (places-show width n new i))
 
 -- ---- a comparison

@@ -3,16 +3,11 @@ use mathlib.Core.Path.{_≡_}
 use mathlib.Core.Bool.{Bool, true, false}
 use mathlib.Core.List.{List}
 use Prim.Native.Nat.{ℕ, _<_, _≤_}
-use lib.ListN.{getD, take, set}
+use lib.ListN.{getD, take}
 use Rattle.arith.specs.declared.interval.Interval.{Interval}
-use Rattle.arith.specs.declared.narrow.Narrowed.{Narrowed}
-use Rattle.arith.specs.declared.narrow.Narrowed.the-variants.{Ends, Refused}
 use Rattle.arith.specs.Formats.{isKnown}
-use Rattle.arith.specs.Narrows.{narrowOf}
-use Rattle.sheet.specs.declared.kept.Record.{Record}
 use Rattle.sheet.specs.declared.kept.Sheet.{Sheet}
 use Rattle.sheet.specs.declared.passes.Outcome.the-variants.{Settled, NoTriple, Stopped}
-use Rattle.sheet.specs.declared.passes.Stepped.{Stepped}
 use Rattle.sheet.specs.declared.passes.Halted.{Halted}
 use Rattle.sheet.specs.Cells.{fractionOf, exponentOf, boxOf, cellsOf}
 use Rattle.sheet.specs.Sheets.{noCell, noSum, filled, usedCells, usedSums}
@@ -37,28 +32,12 @@ pub record Shows (width n : ℕ) (cells : List Interval) : Type 0 where
 abbrev pub endOf : Sheet → Ended
 endOf s = run (fractionOf (s .width)) (exponentOf (s .width)) (usedSums s) (s .limit) (boxOf (s .width) (usedCells s))
 
--- ---- one sum
--- the sum's cells have places
-pub record Reachable (r : Record) : Type 0 where
-  pub x : r .x < 64
-  pub a : r .a < 64
-  pub b : r .b < 64
-
--- by the answer of narrowing it
-abbrev pub steppedBy : List Interval → Record → Narrowed → Stepped
-steppedBy cells r (Ends X A B) = record { solved = true; cells = set (set (set cells (r .x) X) (r .a) A) (r .b) B }
-steppedBy cells r (Refused q) = record { solved = false; cells = cells }
-
--- the cells after the sum is narrowed
-unfoldable pub stepped : ℕ → List Interval → Record → Stepped
-stepped width cells r = steppedBy cells r (narrowOf width (getD cells (r .x) noCell) (getD cells (r .a) noCell) (getD cells (r .b) noCell))
-
+-- ---- the run
 -- t says whether two lists of cells are equal
 pub record Compares (t : Bool) (p q : List Interval) : Type 0 where
   pub same : t ≡ true → p ≡ q
   pub differ : t ≡ false → p ≡ q → ⊥
 
--- ---- the run
 -- a sheet that the run may start from: its cells stand for a box, and its sums name cells of it
 pub record Ready (s : Sheet) : Type 0 where
   pub known : isKnown (s .width) ≡ true

@@ -2,8 +2,7 @@
 ghost use mathlib.Core.Path.{_≡_};
 ghost use Prim.Native.Nat.{_≤_};
 ghost use lib.ListN.{take};
-ghost use Rattle.sheet.specs.Steps.{Reachable, Compares, Ready, EndsAs, stepped, endOf};
-use crate::kept::Record;
+ghost use Rattle.sheet.specs.Steps.{Compares, Ready, EndsAs, endOf};
 use crate::kept::Sheet;
 use arith::interval::Interval;
 use arith::narrow::Narrowed;
@@ -18,46 +17,10 @@ pub enum Outcome {
     Refused(Refusal),
 }
 
-// The cells after one sum, and whether it has a triple.
-pub(crate) struct Stepped {
-    pub(crate) solved: bool,
-    pub(crate) cells: [Interval; 64],
-}
-
 // How a run ended, with the cells as they then were.
 pub(crate) struct Halted {
     pub(crate) outcome: Outcome,
     pub(crate) cells: [Interval; 64],
-}
-
-// Narrows one sum; without a triple the cells stay.
-fn narrow_sum(width: u64, cells: [Interval; 64], sum: Record) -> Stepped
-    requires { ⌜ Reachable sum ⌝ }
-    ensures { λ t. ⌜ t ≡ stepped width cells sum ⌝ }
-{
-    let mut next = cells;
-    let x = sum.x as usize;
-    let a = sum.a as usize;
-    let b = sum.b as usize;
-    match narrow(width, cells[x], cells[a], cells[b]) {
-        Narrowed::Ends {
-            x: new_x,
-            a: new_a,
-            b: new_b,
-        } => {
-            next[x] = new_x;
-            next[a] = new_a;
-            next[b] = new_b;
-            Stepped {
-                solved: true,
-                cells: next,
-            }
-        }
-        Narrowed::Refused(_) => Stepped {
-            solved: false,
-            cells: next,
-        },
-    }
 }
 
 // Whether the first count cells are the same.
@@ -93,12 +56,16 @@ pub(crate) fn run_passes(sheet: Sheet) -> Halted
     let outcome = 'passes: loop {
         let before = cells;
         'sums: for k in 0..n {
-            let step = narrow_sum(width, cells, sums[k as usize]);
-            if !step.solved {
+            let sum = sums[k as usize];
+            let x = cells[sum.x as usize];
+            let a = cells[sum.a as usize];
+            let b = cells[sum.b as usize];
+            let Narrowed::Ends { x: p, a: q, b: r } = narrow(width, x, a, b) else {
                 break 'passes Outcome::NoTriple { pass, sum: k };
-            }
-            let next = step.cells;
-            cells = next;
+            };
+            cells[sum.x as usize] = p;
+            cells[sum.a as usize] = q;
+            cells[sum.b as usize] = r;
         }
         if same_cells(count, before, cells) {
             break 'passes Outcome::Settled { passes: pass };

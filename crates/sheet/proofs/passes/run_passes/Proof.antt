@@ -8,9 +8,10 @@ use Rattle.sheet.specs.Cells.{fractionOf, exponentOf}
 use Rattle.sheet.specs.Steps.{boxIn, Shows, EndsAs}
 use Rattle.sheet.specs.Runs.{whole, passFrom, runFrom, sameBox}
 use Rattle.sheet.specs.Sheets.{noSum, usedSums}
-use borrow.Author.Tests.{not-true, not-false}
+use Rattle.sheet.specs.Boxes.{Names}
 use lib.ListN.{length, getD, take, drop}
-use Prim.Native.Nat.{_-_, _≤_}
+use Prim.Native.Nat.{_-_, _≤_, _<_}
+use borrow.Author.Needs.{needs}
 use mathlib.Core.Path.{_≡_, refl, sym, subst, _∙_}
 use Rattle.sheet.proofs.passes.run_passes.Statement.{statement}
 use Rattle.sheet.proofs.passes.run_passes.Tie as tie
@@ -33,6 +34,16 @@ abbrev μ-passes : tie.MeasureT-passes
 
 long : (c : tie.Start Inv-sums μ-sums Inv-passes μ-passes) → length (c .args .sheet .sums) ≡ 128
 long c = mapped-long _ (c .args .sheet .sums) 128 (c .good .0 .1 .1 .1 .1 .1 .1 .1 .0 .1 .0 .1)
+
+-- the sum at hand names cells of the sheet, and so places
+names : (c : tie.In-sums Inv-sums μ-sums Inv-passes μ-passes) → let s = c .before .before .before .before .before .args .sheet in Names (s .«cell_count») (getD (s .sums) (c .before .sums .k) noSum)
+names c = c .before .before .before .before .before .pre .names (c .before .sums .k) (omega arith)
+
+reach : (c : tie.In-sums Inv-sums μ-sums Inv-passes μ-passes) → let r = getD (c .before .before .before .before .before .args .sheet .sums) (c .before .sums .k) noSum in (r .x < 64) × (r .a < 64) × (r .b < 64)
+reach c =
+    let n = names c in
+    let h = c .before .before .before .before .before .pre .few-cells in
+    (omega arith, omega arith, omega arith)
 
 -- a pass that has left the inner loop at its end gave the box that stands there
 went-through :
@@ -59,17 +70,56 @@ passes-holds c = (refl, c .before .before .pre .shows)
 sums-holds : tie.Need-sums-holds Inv-sums μ-sums Inv-passes μ-passes
 sums-holds c = (omega arith, refl, c .passes .inv .1)
 
-mul-narrow-sum : tie.Need-mul-narrow-sum Inv-sums μ-sums Inv-passes μ-passes
-mul-narrow-sum c = (let h = c .before .before .before .before .before .pre .few-sums in omega arith)
+mul-sum : tie.Need-mul-sum Inv-sums μ-sums Inv-passes μ-passes
+mul-sum c = let h = c .before .before .before .before .before .pre .few-sums in omega arith
 
-array-copy-out-narrow-sum : tie.Need-array-copy-out-narrow-sum Inv-sums μ-sums Inv-passes μ-passes
-array-copy-out-narrow-sum c = (let h = c .before .before .before .before .before .pre .few-sums in omega arith)
+array-copy-out-sum : tie.Need-array-copy-out-sum Inv-sums μ-sums Inv-passes μ-passes
+array-copy-out-sum c = let h = c .before .before .before .before .before .pre .few-sums in omega arith
 
-narrow-sum-requires : tie.Need-narrow-sum-requires Inv-sums μ-sums Inv-passes μ-passes
-narrow-sum-requires c κs =
-    let h = c .before .before .before .before .before .before .pre in
-    let m = h .names (c .before .before .sums .k) (omega arith) in
-    record { x = omega arith; a = omega arith; b = omega arith }
+mul-x : tie.Need-mul-x Inv-sums μ-sums Inv-passes μ-passes
+mul-x c = let h = reach (c .before) in omega arith
+
+array-copy-out-x : tie.Need-array-copy-out-x Inv-sums μ-sums Inv-passes μ-passes
+array-copy-out-x c = let h = reach (c .before) in omega arith
+
+mul-a : tie.Need-mul-a Inv-sums μ-sums Inv-passes μ-passes
+mul-a c = let h = reach (c .before .before) in omega arith
+
+array-copy-out-a : tie.Need-array-copy-out-a Inv-sums μ-sums Inv-passes μ-passes
+array-copy-out-a c = let h = reach (c .before .before) in omega arith
+
+mul-b : tie.Need-mul-b Inv-sums μ-sums Inv-passes μ-passes
+mul-b c = let h = reach (c .before .before .before) in omega arith
+
+array-copy-out-b : tie.Need-array-copy-out-b Inv-sums μ-sums Inv-passes μ-passes
+array-copy-out-b c = let h = reach (c .before .before .before) in omega arith
+
+narrow-requires : tie.Need-narrow-requires Inv-sums μ-sums Inv-passes μ-passes
+narrow-requires c κs = tt
+
+enum-known-p : tie.Need-enum-known-p Inv-sums μ-sums Inv-passes μ-passes
+enum-known-p c = search needs
+
+enum-told : tie.Need-enum-told Inv-sums μ-sums Inv-passes μ-passes
+enum-told c = search needs
+
+mul-cells : tie.Need-mul-cells Inv-sums μ-sums Inv-passes μ-passes
+mul-cells c = let h = reach (c .before .before .before .before .before .before .before .before) in omega arith
+
+array-set-from-cells : tie.Need-array-set-from-cells Inv-sums μ-sums Inv-passes μ-passes
+array-set-from-cells c = let h = reach (c .before .before .before .before .before .before .before .before) in omega arith
+
+mul-cells-2 : tie.Need-mul-cells-2 Inv-sums μ-sums Inv-passes μ-passes
+mul-cells-2 c = let h = reach (c .before .before .before .before .before .before .before .before) in omega arith
+
+array-set-from-cells-2 : tie.Need-array-set-from-cells-2 Inv-sums μ-sums Inv-passes μ-passes
+array-set-from-cells-2 c = let h = reach (c .before .before .before .before .before .before .before .before) in omega arith
+
+mul-cells-3 : tie.Need-mul-cells-3 Inv-sums μ-sums Inv-passes μ-passes
+mul-cells-3 c = let h = reach (c .before .before .before .before .before .before .before .before) in omega arith
+
+array-set-from-cells-3 : tie.Need-array-set-from-cells-3 Inv-sums μ-sums Inv-passes μ-passes
+array-set-from-cells-3 c = let h = reach (c .before .before .before .before .before .before .before .before) in omega arith
 
 add-k : tie.Need-add-k Inv-sums μ-sums Inv-passes μ-passes
 add-k c = omega arith
@@ -79,13 +129,12 @@ sums-less c = omega arith
 
 sums-again : tie.Need-sums-again Inv-sums μ-sums Inv-passes μ-passes
 sums-again c =
-    let s = c .before .before .before .before .before .before .before .before .before .before .args .sheet in
-    let h = c .before .before .before .before .before .before .before .before .before .before .pre in
-    let l = c .before .before .before .before .before .before .sums in
-    let t = c .before .before .before .narrow-sum in
-    let n = long (c .before .before .before .before .before .before .before .before .before .before) in
+    let s = c .before .before .before .before .before .before .before .before .before .before .before .before .before .args .sheet in
+    let h = c .before .before .before .before .before .before .before .before .before .before .before .before .before .pre in
+    let l = c .before .before .before .before .before .before .before .before .before .sums in
+    let n = long (c .before .before .before .before .before .before .before .before .before .before .before .before .before) in
     let few = h .few-sums in
-    let o = step-on (s .width) (s .«cell_count») (h .known) (getD (s .sums) (l .k) noSum) (h .names (l .k) (omega arith)) (l .cells) (l .inv .2) (t .result) (t .ensures) (not-false _ (c .before .if1 .left)) in
+    let o = step-on (s .width) (s .«cell_count») (h .known) (getD (s .sums) (l .k) noSum) (names (c .before .before .before .before .before .before .before .before)) (l .cells) (l .inv .2) _ _ _ (sym (c .before .before .before .narrow .ensures) ∙ c .before .p .given .1) in
     (omega arith, sym (pass-on (fractionOf (s .width)) (exponentOf (s .width)) (s .sums) (s .«sum_count») (l .k) (boxIn (s .width) (s .«cell_count») (l .cells)) _ (omega arith) (omega arith) (o .0)) ∙ l .inv .1, o .1)
 
 same-cells-requires : tie.Need-same-cells-requires Inv-sums μ-sums Inv-passes μ-passes
@@ -102,18 +151,17 @@ passes-again c =
     let s = c .before .before .before .before .before .before .before .before .args .sheet in
     let p = c .before .before .before .before .before .passes in
     let l = c .before .before .before .before .sums in
-    (sym (run-next (fractionOf (s .width)) (exponentOf (s .width)) (usedSums s) (p .pass) (boxIn (s .width) (s .«cell_count») (p .cells)) (s .limit) (boxIn (s .width) (s .«cell_count») (l .cells)) (went-through (c .before .before .before)) (sames (c .before .before) ∙ c .before .if2 .left) (c .if3 .left)) ∙ p .inv .0, l .inv .2)
+    (sym (run-next (fractionOf (s .width)) (exponentOf (s .width)) (usedSums s) (p .pass) (boxIn (s .width) (s .«cell_count») (p .cells)) (s .limit) (boxIn (s .width) (s .«cell_count») (l .cells)) (went-through (c .before .before .before)) (sames (c .before .before) ∙ c .before .if1 .left) (c .if2 .left)) ∙ p .inv .0, l .inv .2)
 
 returns : tie.Need-returns Inv-sums μ-sums Inv-passes μ-passes
 returns c =
-    let s = c .before .before .before .before .before .before .before .before .before .args .sheet in
-    let h = c .before .before .before .before .before .before .before .before .before .pre in
-    let p = c .before .before .before .before .before .before .passes in
-    let l = c .before .before .before .before .before .sums in
-    let t = c .before .before .narrow-sum in
-    let n = long (c .before .before .before .before .before .before .before .before .before) in
+    let s = c .before .before .before .before .before .before .before .before .before .before .before .before .args .sheet in
+    let h = c .before .before .before .before .before .before .before .before .before .before .before .before .pre in
+    let p = c .before .before .before .before .before .before .before .before .before .passes in
+    let l = c .before .before .before .before .before .before .before .before .sums in
+    let n = long (c .before .before .before .before .before .before .before .before .before .before .before .before) in
     let few = h .few-sums in
-    let off = step-off (s .width) (s .«cell_count») (h .known) (getD (s .sums) (l .k) noSum) (h .names (l .k) (omega arith)) (l .cells) (l .inv .2) (t .result) (t .ensures) (not-true _ (c .if1 .taken)) in
+    let off = step-off (s .width) (s .«cell_count») (h .known) (getD (s .sums) (l .k) noSum) (names (c .before .before .before .before .before .before .before)) (l .cells) (l .inv .2) _ (sym (c .before .before .narrow .ensures) ∙ c .enum-told .given .1) in
     let gone = sym (l .inv .1) ∙ pass-off (fractionOf (s .width)) (exponentOf (s .width)) (s .sums) (s .«sum_count») (l .k) (boxIn (s .width) (s .«cell_count») (l .cells)) (omega arith) (omega arith) off in
     let end = sym (p .inv .0) ∙ run-broken (fractionOf (s .width)) (exponentOf (s .width)) (usedSums s) (p .pass) (boxIn (s .width) (s .«cell_count») (p .cells)) (s .limit - p .pass) (l .k) gone in
     subst (EndsAs s _) (sym end) refl
@@ -123,7 +171,7 @@ returns-2 c =
     let s = c .before .before .before .before .before .before .before .args .sheet in
     let p = c .before .before .before .before .passes in
     let l = c .before .before .before .sums in
-    let end = sym (p .inv .0) ∙ run-settled (fractionOf (s .width)) (exponentOf (s .width)) (usedSums s) (p .pass) (boxIn (s .width) (s .«cell_count») (p .cells)) (s .limit - p .pass) (boxIn (s .width) (s .«cell_count») (l .cells)) (went-through (c .before .before)) (sames (c .before) ∙ c .if2 .taken) in
+    let end = sym (p .inv .0) ∙ run-settled (fractionOf (s .width)) (exponentOf (s .width)) (usedSums s) (p .pass) (boxIn (s .width) (s .«cell_count») (p .cells)) (s .limit - p .pass) (boxIn (s .width) (s .«cell_count») (l .cells)) (went-through (c .before .before)) (sames (c .before) ∙ c .if1 .taken) in
     subst (EndsAs s _) (sym end) (refl, l .inv .2 .held)
 
 returns-3 : tie.Need-returns-3 Inv-sums μ-sums Inv-passes μ-passes
@@ -131,7 +179,7 @@ returns-3 c =
     let s = c .before .before .before .before .before .before .before .before .args .sheet in
     let p = c .before .before .before .before .before .passes in
     let l = c .before .before .before .before .sums in
-    let end = sym (p .inv .0) ∙ run-stopped (fractionOf (s .width)) (exponentOf (s .width)) (usedSums s) (p .pass) (boxIn (s .width) (s .«cell_count») (p .cells)) (s .limit) (boxIn (s .width) (s .«cell_count») (l .cells)) (went-through (c .before .before .before)) (sames (c .before .before) ∙ c .before .if2 .left) (c .if3 .taken) in
+    let end = sym (p .inv .0) ∙ run-stopped (fractionOf (s .width)) (exponentOf (s .width)) (usedSums s) (p .pass) (boxIn (s .width) (s .«cell_count») (p .cells)) (s .limit) (boxIn (s .width) (s .«cell_count») (l .cells)) (went-through (c .before .before .before)) (sames (c .before .before) ∙ c .before .if1 .left) (c .if2 .taken) in
     subst (EndsAs s _) (sym end) (refl, l .inv .2 .held)
 
 pub run-passes-spec : {M : Type 1} → statement M
@@ -144,9 +192,23 @@ run-passes-spec =
     μ-passes
     passes-holds
     sums-holds
-    mul-narrow-sum
-    array-copy-out-narrow-sum
-    narrow-sum-requires
+    mul-sum
+    array-copy-out-sum
+    mul-x
+    array-copy-out-x
+    mul-a
+    array-copy-out-a
+    mul-b
+    array-copy-out-b
+    narrow-requires
+    enum-known-p
+    enum-told
+    mul-cells
+    array-set-from-cells
+    mul-cells-2
+    array-set-from-cells-2
+    mul-cells-3
+    array-set-from-cells-3
     add-k
     sums-less
     sums-again
