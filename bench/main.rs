@@ -1,5 +1,5 @@
 //! Nanoseconds for the library's forward sum and narrowing and for a pass over a sheet, beside unverified baselines in the
-//! same run.
+//! same run; for a pass also beside its narrowings by the library.
 //!
 //! Usage: bench PROGRAM, the program `narrow`. Both sides get the same input and must give the same answers. Each figure is the
 //! best of several rounds; the result buffers are not cleared between calls.
@@ -68,8 +68,13 @@ fn time(call: Call, width: u64, cases: &[[u64; 6]]) -> (f64, u64) {
     (best, black_box(check))
 }
 
+/// A line with the library's nanoseconds, those of what it is held to, and their ratio.
+pub fn report_beside(what: &str, library: f64, other: &str, figure: f64) {
+    println!("{what}: library {library:.1} ns, {other} {figure:.1} ns, ratio {:.2}", library / figure);
+}
+
 pub fn report(what: &str, library: f64, baseline: f64) {
-    println!("{what}: library {library:.1} ns, baseline {baseline:.1} ns, ratio {:.2}", library / baseline);
+    report_beside(what, library, "baseline", baseline);
 }
 
 fn narrowing<W: Width>(mix: &str, make: fn(&mut Words) -> [Range; 3]) {

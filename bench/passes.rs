@@ -1,30 +1,86 @@
-//! A pass over a sheet of 64 cells and 128 sums, by the program `narrow` and by the reference in this process.
+//! A pass over a sheet of 64 cells and 128 sums by the program `narrow`, beside the reference in this process and beside its
+//! 128 narrowings through the library's C entry.
 //!
-//! The sheet counts upward: each pass moves ends by a few floats, so a run makes all the passes that its limit allows. The
-//! time of a run of one pass is taken off, and with it the start of the program and the reading of the text.
+//! A part of the sheet counts upward: each pass moves ends by a few floats, so a run makes all the passes that its limit
+//! allows. The time of a run of one pass is taken off, and with it the start of the program and the reading of the text.
 
-use crate::{report, sheet};
+use crate::{entry, report, report_beside, sheet, time};
 use std::io::Write;
 use std::process::{Command, Stdio};
 use std::time::Instant;
 
-const PASSES: u32 = 1_000;
-const ROUNDS: usize = 5;
+const PASSES: usize = 1_000;
+const ROUNDS: usize = 9;
 
-/// Cells 0 to 61 from place 0 on, cell 62 the smallest float, cell 63 zero. Sums go around a ring of the first 62 cells; the
-/// first of each round adds the smallest float and the others add zero.
-fn text(limit: u32) -> String {
-    let mut text = format!("sheet\t64\t{limit}\n");
-    for _ in 0..62 {
-        text += "cell\t0000000000000000\t3FF0000000000000\n";
+struct Sheet {
+    cells: Vec<[u64; 2]>,
+    sums: Vec<[usize; 3]>,
+}
+
+/// Four groups of 16 cells: a ring of 14 from 0 on, with the smallest float and zero; wide ones, from minus a power of two to
+/// a power of two; cell k a few floats around k + 1; and 7 positive binades, 7 negative ones, and two a few floats around 1.
+fn cells() -> Vec<[u64; 2]> {
+    let span = |low: f64, high: f64| [low.to_bits(), high.to_bits()];
+    let around = |middle: f64| [middle.to_bits() - 4, middle.to_bits() + 4];
+    let power = |k: i32| 2f64.powi(k);
+    let mut cells = vec![span(0.0, 1.0); 14];
+    cells.extend([[1, 1], [0, 0]]);
+    cells.extend((0..16).map(|k| span(-power(60 * k - 500), power(400 - 60 * k))));
+    cells.extend((0..16).map(|k| around((k + 1) as f64)));
+    cells.extend([span(power(40), power(41)); 7]);
+    cells.extend([span(-power(41), -power(40)); 7]);
+    cells.extend([around(1.0); 2]);
+    cells
+}
+
+/// One sum of each group: around the ring, where the first step adds the smallest float and the others zero; of wide cells;
+/// of k + 1 and l + 1; and a cancellation.
+fn sums_of_round(i: usize) -> [[usize; 3]; 4] {
+    let step = if i % 14 == 0 { 14 } else { 15 };
+    let (k, l) = (i % 4, 4 + i / 4);
+    [
+        [i % 14, step, (i + 1) % 14],
+        [16 + i % 16, 16 + (i + 1) % 16, 16 + (i + 2 + i / 16) % 16],
+        [32 + k, 32 + l, 33 + k + l],
+        [48 + i % 7, 55 + (i + i / 7) % 7, 62 + i % 2],
+    ]
+}
+
+impl Sheet {
+    fn new() -> Sheet {
+        Sheet { cells: cells(), sums: (0..32).flat_map(sums_of_round).collect() }
     }
-    text += "cell\t0000000000000001\t0000000000000001\ncell\t0000000000000000\t0000000000000000\n";
-    for i in 0..128 {
-        let (from, to) = (i % 62, (i + 1) % 62);
-        let step = if from == 0 { 62 } else { 63 };
-        text += &format!("sum\t{from}\t{step}\t{to}\n");
+
+    fn text(&self, limit: usize) -> String {
+        let cell = |[low, high]: &[u64; 2]| format!("cell\t{low:016X}\t{high:016X}\n");
+        let sum = |[x, a, b]: &[usize; 3]| format!("sum\t{x}\t{a}\t{b}\n");
+        let cells: String = self.cells.iter().map(cell).collect();
+        let sums: String = self.sums.iter().map(sum).collect();
+        format!("sheet\t64\t{limit}\n{cells}{sums}")
     }
-    text
+
+    /// The cell lines of a listing.
+    fn lines(&self) -> String {
+        let line = |(i, [low, high]): (usize, &[u64; 2])| format!("cell\t{i}\t{low:016X}\t{high:016X}\n");
+        self.cells.iter().enumerate().map(line).collect()
+    }
+
+    /// One pass through the C entry; the ends that each of its narrowings is given.
+    fn pass(&mut self) -> Vec<[u64; 6]> {
+        let mut given = vec![];
+        for sum in &self.sums {
+            let [x, a, b] = sum.map(|i| self.cells[i]);
+            let ends = [x[0], x[1], a[0], a[1], b[0], b[1]];
+            let mut result = [0; 48];
+            assert_eq!(entry::call(64, ends, &mut result), 0, "bench: a sum of the sheet has no triple");
+            let end = |i: usize| u64::from_le_bytes(result[8 * i..8 * i + 8].try_into().unwrap());
+            for (j, i) in sum.iter().enumerate() {
+                self.cells[*i] = [end(2 * j), end(2 * j + 1)];
+            }
+            given.push(ends);
+        }
+        given
+    }
 }
 
 fn run(program: &str, text: &str) -> String {
@@ -34,7 +90,7 @@ fn run(program: &str, text: &str) -> String {
 }
 
 /// Best nanoseconds for a text, with its listing.
-fn time(listing: &dyn Fn(&str) -> String, text: &str) -> (f64, String) {
+fn time_listing(listing: &dyn Fn(&str) -> String, text: &str) -> (f64, String) {
     let mut best = f64::MAX;
     let mut printed = String::new();
     for _ in 0..ROUNDS {
@@ -45,16 +101,24 @@ fn time(listing: &dyn Fn(&str) -> String, text: &str) -> (f64, String) {
     (best, printed)
 }
 
-fn per_pass(listing: &dyn Fn(&str) -> String) -> (f64, String) {
-    let (one, _) = time(listing, &text(1));
-    let (all, printed) = time(listing, &text(1 + PASSES));
+fn per_pass(listing: &dyn Fn(&str) -> String, sheet: &Sheet) -> (f64, String) {
+    let (one, _) = time_listing(listing, &sheet.text(1));
+    let (all, printed) = time_listing(listing, &sheet.text(1 + PASSES));
     assert!(printed.starts_with(&format!("stopped\t{}\n", 1 + PASSES)), "bench: the sheet settles early: {printed}");
     ((all - one) / PASSES as f64, printed)
 }
 
 pub fn pass(program: &str) {
-    let (library, printed) = per_pass(&|text| run(program, text));
-    let (baseline, expected) = per_pass(&|text| sheet::listing(text.as_bytes()));
+    let what = "a pass of 64 cells and 128 sums, width 64";
+    let mut sheet = Sheet::new();
+    let (library, printed) = per_pass(&|text| run(program, text), &sheet);
+    let (baseline, expected) = per_pass(&|text| sheet::listing(text.as_bytes()), &sheet);
     assert_eq!(printed, expected, "bench: the program and the reference print different listings");
-    report("a pass of 64 cells and 128 sums, width 64", library, baseline);
+    report(what, library, baseline);
+
+    sheet.pass();
+    let narrowings: Vec<[u64; 6]> = (0..PASSES).flat_map(|_| sheet.pass()).collect();
+    assert!(printed.ends_with(&sheet.lines()), "bench: the C entry and the program leave different cells");
+    let (narrowing, _) = time(entry::call, 64, &narrowings);
+    report_beside(what, library, "its 128 narrowings", 128.0 * narrowing);
 }
