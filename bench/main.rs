@@ -1,5 +1,6 @@
 //! Nanoseconds for the library's forward sum and narrowing and for a pass over a sheet, beside unverified baselines in the
-//! same run; for a pass also beside its narrowings by the library.
+//! same run; for a pass also beside its narrowings by the library. Then how the cost grows: of a narrowing with the length of
+//! its intervals, of a run with its sums and passes.
 //!
 //! Usage: bench PROGRAM, the program `narrow`. Both sides get the same input and must give the same answers. Each figure is the
 //! best of several rounds; the result buffers are not cleared between calls.
@@ -39,11 +40,16 @@ fn wide<W: Width>(words: &mut Words) -> [Range; 3] {
     [x, a, b]
 }
 
+/// Every interval at most so many floats long, and one.
+fn about<W: Width>(words: &mut Words, most: i64) -> [Range; 3] {
+    let (p, q) = cases::middles::<W>(words, "opposite signs");
+    let (x, a) = (cases::around::<W>(words, p, most), cases::around::<W>(words, q.abs(), most));
+    [x, a, cases::about_sum::<W>(words, x, a, most)]
+}
+
 /// Every interval a few floats long.
 fn few_ulps<W: Width>(words: &mut Words) -> [Range; 3] {
-    let (p, q) = cases::middles::<W>(words, "opposite signs");
-    let (x, a) = (cases::around::<W>(words, p, 8), cases::around::<W>(words, q.abs(), 8));
-    [x, a, cases::about_sum::<W>(words, x, a, 8)]
+    about::<W>(words, 8)
 }
 
 /// Binades of opposite signs, b a few floats long: most of the operands cancel.
@@ -77,7 +83,7 @@ pub fn report(what: &str, library: f64, baseline: f64) {
     report_beside(what, library, "baseline", baseline);
 }
 
-fn narrowing<W: Width>(mix: &str, make: fn(&mut Words) -> [Range; 3]) {
+fn narrowing<W: Width>(mix: &str, make: impl Fn(&mut Words) -> [Range; 3]) {
     let mut words = Words(0x9E37_79B9_7F4A_7C15);
     let ends = |[x, a, b]: [Range; 3]| [x.low, x.high, a.low, a.high, b.low, b.high].map(W::pattern);
     let cases: Vec<[u64; 6]> = (0..CASES).map(|_| ends(make(&mut words))).collect();
@@ -93,6 +99,13 @@ fn narrowings<W: Width>() {
     narrowing::<W>("cancellation", cancellation::<W>);
 }
 
+/// By the length of the intervals.
+fn lengths<W: Width>() {
+    for k in [0, 10, 20, 30, 40, 50, 60] {
+        narrowing::<W>(&format!("up to 2^{k} + 1 floats"), |words| about::<W>(words, 1 << k));
+    }
+}
+
 fn main() {
     sums::sums::<Binary32>();
     sums::sums::<Binary64>();
@@ -100,4 +113,6 @@ fn main() {
     narrowings::<Binary64>();
     let program = std::env::args().nth(1).expect("usage: bench PROGRAM");
     passes::pass(&program);
+    lengths::<Binary64>();
+    passes::growth(&program);
 }

@@ -47,8 +47,8 @@ fn sums_of_round(i: usize) -> [[usize; 3]; 4] {
 }
 
 impl Sheet {
-    fn new() -> Sheet {
-        Sheet { cells: cells(), sums: (0..32).flat_map(sums_of_round).collect() }
+    fn new(sums: usize) -> Sheet {
+        Sheet { cells: cells(), sums: (0..32).flat_map(sums_of_round).take(sums).collect() }
     }
 
     fn text(&self, limit: usize) -> String {
@@ -101,18 +101,18 @@ fn time_listing(listing: &dyn Fn(&str) -> String, text: &str) -> (f64, String) {
     (best, printed)
 }
 
-fn per_pass(listing: &dyn Fn(&str) -> String, sheet: &Sheet) -> (f64, String) {
+fn per_pass(listing: &dyn Fn(&str) -> String, sheet: &Sheet, passes: usize) -> (f64, String) {
     let (one, _) = time_listing(listing, &sheet.text(1));
-    let (all, printed) = time_listing(listing, &sheet.text(1 + PASSES));
-    assert!(printed.starts_with(&format!("stopped\t{}\n", 1 + PASSES)), "bench: the sheet settles early: {printed}");
-    ((all - one) / PASSES as f64, printed)
+    let (all, printed) = time_listing(listing, &sheet.text(1 + passes));
+    assert!(printed.starts_with(&format!("stopped\t{}\n", 1 + passes)), "bench: the sheet settles early: {printed}");
+    ((all - one) / passes as f64, printed)
 }
 
 pub fn pass(program: &str) {
     let what = "a pass of 64 cells and 128 sums, width 64";
-    let mut sheet = Sheet::new();
-    let (library, printed) = per_pass(&|text| run(program, text), &sheet);
-    let (baseline, expected) = per_pass(&|text| sheet::listing(text.as_bytes()), &sheet);
+    let mut sheet = Sheet::new(128);
+    let (library, printed) = per_pass(&|text| run(program, text), &sheet, PASSES);
+    let (baseline, expected) = per_pass(&|text| sheet::listing(text.as_bytes()), &sheet, PASSES);
     assert_eq!(printed, expected, "bench: the program and the reference print different listings");
     report(what, library, baseline);
 
@@ -121,4 +121,12 @@ pub fn pass(program: &str) {
     assert!(printed.ends_with(&sheet.lines()), "bench: the C entry and the program leave different cells");
     let (narrowing, _) = time(entry::call, 64, &narrowings);
     report_beside(what, library, "its 128 narrowings", 128.0 * narrowing);
+}
+
+/// A pass by its sums, and by how many passes the run makes.
+pub fn growth(program: &str) {
+    for (sums, passes) in [(32, PASSES), (64, PASSES), (128, PASSES), (128, 4 * PASSES), (128, 16 * PASSES)] {
+        let (library, _) = per_pass(&|text| run(program, text), &Sheet::new(sums), passes);
+        println!("a pass of {sums} sums, one of {passes}: library {library:.1} ns, {:.1} ns a sum", library / sums as f64);
+    }
 }
