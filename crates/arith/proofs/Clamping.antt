@@ -1,10 +1,13 @@
 -- The clamp in words: the exponent field of the sum's ends, the digits in which they differ, and the raised end. Assumes nothing.
-use mathlib.Core.Path.{_≡_, refl, sym, ap, subst}
+use mathlib.Core.Path.{_≡_, refl, sym, ap, _∙_, subst}
 use mathlib.Core.Logic.{inl, inr}
 use Prim.Native.Nat.{ℕ, zero, suc, _+_, _-_, _*_, _/_, _^_, _≤_, _<_, _∣_, max}
-use native.Mathlib.Nat.{le-div-iff-mul-le, div-lt-iff-lt-mul, mul-le-mul-right, not-le-of-lt}
+use native.Mathlib.Nat.{le-div-iff-mul-le, div-lt-iff-lt-mul, mul-le-mul-right, div-eq-of-lt}
 use native.Mathlib.Omega.{arith}
 use lib.Pow.{pow-pos, pow-mono}
+use lib.Bits.{bitXor, xor-add-and, and-le-l, and-le-r, xor-shr, xor-lt}
+use lib.Ieee.{size}
+use lib.Ieee.Digits.{size-lt, size-le}
 use Rattle.ladder.specs.Magnitude.{magnitude}
 use Rattle.ladder.specs.Ordinal as L
 use Rattle.ladder.specs.Solution.{Interval}
@@ -22,12 +25,17 @@ field f q m e =
 pub field-half : (f q m : ℕ) → 1 ≤ f → q ≡ m / 2 ^ f → 2 * q ≤ m
 field-half f q m some e = omega (arith, field f q m e .0, native.Mathlib.Nat.mul-le-mul-left q (pow-mono {i = 1} some))
 
--- a quotient that is left shows that few digits were dropped
-pub few-dropped : (q j : ℕ) → q < 2 ^ 64 → 0 < q / 2 ^ j → j < 64
-few-dropped q j h p = elim (le-or-lt 64 j) [
-  | inl l ↦ absurd (not-le-of-lt (div-lt-iff-lt-mul (pow-pos j) .1 (omega (arith, pow-mono l))) p)
-  | inr l ↦ l
-]
+-- ---- the digits in which two words differ
+xor-none : (a b : ℕ) → bitXor a b ≡ 0 → a ≡ b
+xor-none a b e = omega (arith, xor-add-and a b, and-le-l a b, and-le-r a b)
+
+pub agree : (p q r : ℕ) → r ≡ size (bitXor p q) → p / 2 ^ r ≡ q / 2 ^ r
+agree p q r e =
+    let l : bitXor p q < 2 ^ r = subst (λ (x : ℕ). bitXor p q < 2 ^ x) (sym e) (size-lt (bitXor p q)) in
+    xor-none (p / 2 ^ r) (q / 2 ^ r) (sym (xor-shr p q r) ∙ div-eq-of-lt l)
+
+pub few-differ : (p q : ℕ) → p < 2 ^ 64 → q < 2 ^ 64 → size (bitXor p q) ≤ 64
+few-differ p q P Q = size-le (bitXor p q) 64 (xor-lt 64 p q P Q)
 
 -- the binade below q
 pub base-next : (f q base : ℕ) → (q ≡ 0 → ⊥) → base ≡ (q - 1) * 2 ^ f → base + 2 ^ f ≡ q * 2 ^ f

@@ -9,23 +9,15 @@ ghost use Rattle.arith.specs.Searches.{span};
 use crate::format::Format;
 use crate::range::Range;
 use crate::range::reflect;
+use crate::words::digits;
 use crate::words::shift_left;
 use crate::words::shift_right;
 
 // How many low digits to drop until p and q agree.
 fn differing(p: u64, q: u64) -> u64
-    requires { ⌜ p ≤ q ⌝ }
     ensures { λ r. ⌜ (p / 2 ^ r ≡ q / 2 ^ r) × (r ≤ 64) ⌝ }
 {
-    let mut u = p;
-    let mut v = q;
-    let mut j = 0;
-    while u != v {
-        u = u / 2;
-        v = v / 2;
-        j += 1;
-    }
-    j
+    digits(p ^ q)
 }
 
 // A k such that no magnitude from lo to hi is a multiple of 2^k.

@@ -28,7 +28,7 @@ sub-differing : tie.Need-sub-differing
 sub-differing c = search needs
 
 differing-requires : tie.Need-differing-requires
-differing-requires c κs = search needs
+differing-requires c κs = tt
 
 returns-2 : tie.Need-returns-2
 returns-2 c =
@@ -63,7 +63,7 @@ sub-differing-4 : tie.Need-sub-differing-4
 sub-differing-4 c = omega (arith, based c)
 
 differing-requires-2 : tie.Need-differing-requires-2
-differing-requires-2 c κs = search needs
+differing-requires-2 c κs = tt
 
 add-result-2 : tie.Need-add-result-2
 add-result-2 c =
