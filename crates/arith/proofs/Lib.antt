@@ -17,3 +17,4 @@ pub mod Floating
 pub mod Adding
 pub mod Placing
 pub mod Valid
+pub mod Replies

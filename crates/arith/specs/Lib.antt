@@ -7,4 +7,6 @@ pub mod Thresholds
 pub mod Searches
 pub mod Narrows
 pub mod Floating
+pub mod Answers
+pub mod Replies
 pub mod Exports

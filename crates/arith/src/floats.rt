@@ -4,6 +4,8 @@ ghost use mathlib.Core.Bool.{true};
 ghost use Rattle.arith.specs.Formats.{formatOf};
 ghost use Rattle.arith.specs.Intervals.{endsFinite};
 ghost use Rattle.arith.specs.Floating.{floatsOf, narrowFloatsOf};
+ghost use Rattle.arith.specs.Answers.{floatsTold};
+ghost use Rattle.arith.specs.Replies.{replyAfter, givenTests, floatValues};
 use crate::interval::Interval;
 use crate::narrow::Narrowed;
 use crate::narrow::narrow;
@@ -36,6 +38,7 @@ fn floats_of(i: Interval) -> Floats
 // The values of x, a and b that stand in triples, none for all three where there is no triple; refusals 2 for x, a, b, then 3 for x, a, b.
 pub fn narrow_floats(x: Interval, a: Interval, b: Interval) -> FloatAnswer
     ensures { λ r. ⌜ r ≡ narrowFloatsOf x a b ⌝ }
+    ensures { λ r. ⌜ floatsTold r ≡ replyAfter (givenTests 64 x a b) (floatValues x a b) ⌝ }
 {
     match narrow(64, x, a, b) {
         Narrowed::Ends { x: p, a: q, b: r } => FloatAnswer::Values {

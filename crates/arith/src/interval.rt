@@ -4,6 +4,8 @@ ghost use mathlib.Core.Bool.{true};
 ghost use Rattle.arith.specs.Formats.{Sound, Finite};
 ghost use Rattle.arith.specs.Sums.{isFiniteOrdinal};
 ghost use Rattle.arith.specs.Intervals.{Ends, endsFinite, rangeOf, intervalOf, sharedIn, movedIn, translated, canonicalIn, cutIn, shiftIn, mirrorIn, canonicalOf, cutOf, shiftOf, mirrorOf};
+ghost use Rattle.arith.specs.Answers.{cutTold, imageTold};
+ghost use Rattle.arith.specs.Replies.{replyAfter, ownTests, cutTests, shiftTests, canonicalValues, cutValues, shiftValues, mirrorValues};
 use crate::format::Format;
 use crate::format::format_of;
 use crate::format::known;
@@ -191,6 +193,7 @@ impl Interval {
     // The interval with its ends in canonical patterns; refusals 1, 2 for low then high, 3.
     pub fn canonical(self, width: u64) -> Image
         ensures { λ r. ⌜ r ≡ canonicalOf width self ⌝ }
+        ensures { λ r. ⌜ imageTold r ≡ replyAfter (ownTests width self) (canonicalValues width self) ⌝ }
     {
         if !known(width) {
             return Image::Refused(refuse(1));
@@ -201,6 +204,7 @@ impl Interval {
     // What the interval shares with another; refusals 1, 2 for the own ends then the other's, 3 for the own then the other.
     pub fn cut(self, width: u64, other: Interval) -> Cut
         ensures { λ r. ⌜ r ≡ cutOf width self other ⌝ }
+        ensures { λ r. ⌜ cutTold r ≡ replyAfter (cutTests width self other) (cutValues width self other) ⌝ }
     {
         if !known(width) {
             return Cut::Refused(refuse(1));
@@ -211,6 +215,7 @@ impl Interval {
     // From low + c to high + c, each sum rounded; refusals 1, 2 for the ends then c, 3, 9.
     pub fn shift(self, width: u64, c: u64) -> Image
         ensures { λ r. ⌜ r ≡ shiftOf width self c ⌝ }
+        ensures { λ r. ⌜ imageTold r ≡ replyAfter (shiftTests width self c) (shiftValues width self c) ⌝ }
     {
         if !known(width) {
             return Image::Refused(refuse(1));
@@ -221,6 +226,7 @@ impl Interval {
     // From -high to -low; refusals 1, 2, 3.
     pub fn mirror(self, width: u64) -> Image
         ensures { λ r. ⌜ r ≡ mirrorOf width self ⌝ }
+        ensures { λ r. ⌜ imageTold r ≡ replyAfter (ownTests width self) (mirrorValues width self) ⌝ }
     {
         if !known(width) {
             return Image::Refused(refuse(1));

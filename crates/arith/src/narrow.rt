@@ -4,6 +4,8 @@ ghost use Rattle.arith.specs.Formats.{Sound};
 ghost use Rattle.arith.specs.Intervals.{Ends};
 ghost use Rattle.arith.specs.Searches.{narrowingIn, narrowing};
 ghost use Rattle.arith.specs.Narrows.{narrowAnswer, narrowOrdered, narrowIn, narrowOf};
+ghost use Rattle.arith.specs.Answers.{narrowedTold};
+ghost use Rattle.arith.specs.Replies.{replyAfter, narrowTests, narrowValues};
 use crate::extent::Extent;
 use crate::extent::extent_b;
 use crate::extent::extent_x;
@@ -113,6 +115,7 @@ fn narrow_in(format: Format, x: Interval, a: Interval, b: Interval) -> Narrowed
 // The ends of x, a and b that stand in triples; refusals 1, 2 for x, a, b, 3 for x, a, b, 11, in this order.
 pub fn narrow(width: u64, x: Interval, a: Interval, b: Interval) -> Narrowed
     ensures { λ r. ⌜ r ≡ narrowOf width x a b ⌝ }
+    ensures { λ r. ⌜ narrowedTold r ≡ replyAfter (narrowTests width x a b) (narrowValues width x a b) ⌝ }
 {
     if !known(width) {
         return Narrowed::Refused(refuse(1));

@@ -4,6 +4,8 @@ ghost use mathlib.Core.Bool.{cond};
 ghost use Prim.Native.Nat.{_+_, _-_, _≤_};
 ghost use Rattle.arith.specs.Formats.{Sound, Finite, sum};
 ghost use Rattle.arith.specs.Sums.{markFor, sumAnswer, addIn, addOf};
+ghost use Rattle.arith.specs.Answers.{sumTold};
+ghost use Rattle.arith.specs.Replies.{replyAfter, addTests, addValues};
 use crate::exact::exact_sum;
 use crate::format::Format;
 use crate::format::format_of;
@@ -96,6 +98,7 @@ fn add_in(format: Format, x: u64, a: u64) -> Sum
 // The sum of two patterns with its mark; refusals 1, 2 for x then a, 9, in this order.
 pub fn add(width: u64, x: u64, a: u64) -> Sum
     ensures { λ r. ⌜ r ≡ addOf width x a ⌝ }
+    ensures { λ r. ⌜ sumTold r ≡ replyAfter (addTests width x a) (addValues width x a) ⌝ }
 {
     if !known(width) {
         return Sum::Refused(refuse(1));

@@ -4,9 +4,9 @@ use Prim.Native.Nat.{ℕ}
 use lib.Dec.{ltb, leb, eqb}
 use Rattle.arith.specs.declared.interval.Interval.{Interval}
 use Rattle.arith.specs.declared.interval.Image.{Image}
-use Rattle.arith.specs.declared.interval.Image.the-variants.{Is, Refused}
 use Rattle.arith.specs.Formats.{isKnown}
 use Rattle.arith.specs.Intervals.{canonicalOf}
+use Rattle.arith.specs.Answers.{imageTold}
 use Rattle.sheet.specs.declared.kept.Record.{Record}
 
 -- the width and the pass limit: 1; 7 for a limit of 0 or above 65,535
@@ -19,8 +19,7 @@ headFault width limit =
 
 -- an image's number: 0, or its refusal's
 abbrev pub imageNumber : Image → ℕ
-imageNumber (Is i) = 0
-imageNumber (Refused r) = r .number
+imageNumber i = imageTold i .number
 
 -- a cell: 2 for low, then high; 3 for low above high (1 at a width that is none)
 unfoldable pub cellFault : ℕ → Interval → ℕ

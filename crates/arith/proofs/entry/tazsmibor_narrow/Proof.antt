@@ -13,7 +13,7 @@ same-length : tie.Need-same-length
 same-length c = search needs
 
 returns : tie.Need-returns
-returns c = rw (← c .before .before .before .narrow .ensures) (c .before .before .put-answer .ensures)
+returns c = rw (← c .before .before .before .narrow .ensures .0) (c .before .before .put-answer .ensures)
 
 pub tazsmibor-narrow-spec : {M : Type 1} → statement M
 tazsmibor-narrow-spec =

@@ -6,14 +6,16 @@ use Rattle.arith.specs.declared.narrow.Narrowed.the-variants.{Ends, Refu
 use Rattle.arith.specs.Formats.{formatOf}
 use Rattle.arith.specs.Intervals.{endsFinite}
 use Rattle.arith.specs.Narrows.{narrowOf}
+use Rattle.arith.specs.Answers.{floatsTold}
 use Rattle.arith.proofs.Callers.{narrow-answered, answered-finite}
 use Rattle.arith.proofs.Floating.{floats-ends, floats-none, floats-refused}
+use Rattle.arith.proofs.Replies.{told-too, floats-told}
 use Rattle.arith.proofs.floats.narrow_floats.Statement.{statement}
 use Rattle.arith.proofs.floats.narrow_floats.Tie as tie
 
 -- the answer has finite ends
 ends-are : (c : tie.After-known-told) → let a = c .before .before .before .before .args in Ends (c .before .p .given .0 .0) (c .before .p .given .0 .1 .0) (c .before .p .given .0 .1 .1 .0) ≡ narrowOf 64 (a .x) (a .a) (a .b)
-ends-are c = rw (c .before .p .given .1) at (c .before .before .before .narrow .ensures)
+ends-are c = rw (c .before .p .given .1) at (c .before .before .before .narrow .ensures .0)
 
 finite : (c : tie.After-known-told) → let F = formatOf 64 in (endsFinite F (c .before .p .given .0 .0) ≡ true) × (endsFinite F (c .before .p .given .0 .1 .0) ≡ true) × (endsFinite F (c .before .p .given .0 .1 .1 .0) ≡ true)
 finite c =
@@ -41,19 +43,20 @@ enum-known-refusal c = search needs
 returns : tie.Need-returns
 returns c =
     let a = c .before .before .before .before .before .before .before .args in
-    floats-ends (a .x) (a .a) (a .b) _ _ _ _ _ _ (c .before .before .floats-of .ensures) (c .before .floats-of2 .ensures) (c .floats-of3 .ensures) (ends-are (c .before .before .before))
+    told-too floatsTold (floats-told (a .x) (a .a) (a .b))
+    (floats-ends (a .x) (a .a) (a .b) _ _ _ _ _ _ (c .before .before .floats-of .ensures) (c .before .floats-of2 .ensures) (c .floats-of3 .ensures) (ends-are (c .before .before .before)))
 
 returns-2 : tie.Need-returns-2
 returns-2 c =
     let a = c .before .before .before .before .before .before .args in
-    let e : Refused (c .before .before .before .refusal .given .0 .0) ≡ narrowOf 64 (a .x) (a .a) (a .b) = rw (c .before .before .before .refusal .given .1) at (c .before .before .before .before .before .narrow .ensures) in
-    floats-none (a .x) (a .a) (a .b) _ (c .if1 .taken) e
+    let e : Refused (c .before .before .before .refusal .given .0 .0) ≡ narrowOf 64 (a .x) (a .a) (a .b) = rw (c .before .before .before .refusal .given .1) at (c .before .before .before .before .before .narrow .ensures .0) in
+    told-too floatsTold (floats-told (a .x) (a .a) (a .b)) (floats-none (a .x) (a .a) (a .b) _ (c .if1 .taken) e)
 
 returns-3 : tie.Need-returns-3
 returns-3 c =
     let a = c .before .before .before .before .before .before .args in
-    let e : Refused (c .before .before .before .refusal .given .0 .0) ≡ narrowOf 64 (a .x) (a .a) (a .b) = rw (c .before .before .before .refusal .given .1) at (c .before .before .before .before .before .narrow .ensures) in
-    floats-refused (a .x) (a .a) (a .b) _ (c .if1 .left) e
+    let e : Refused (c .before .before .before .refusal .given .0 .0) ≡ narrowOf 64 (a .x) (a .a) (a .b) = rw (c .before .before .before .refusal .given .1) at (c .before .before .before .before .before .narrow .ensures .0) in
+    told-too floatsTold (floats-told (a .x) (a .a) (a .b)) (floats-refused (a .x) (a .a) (a .b) _ (c .if1 .left) e)
 
 pub narrow-floats-spec : {M : Type 1} → statement M
 narrow-floats-spec =

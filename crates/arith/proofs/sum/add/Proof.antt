@@ -4,8 +4,10 @@ use Rattle.arith.specs.declared.sum.Sum.the-variants as Sum
 use Rattle.arith.specs.declared.format.Format.{Format}
 use Rattle.arith.specs.Formats.{Sound}
 use Rattle.arith.specs.Sums.{addIn, addOf}
+use Rattle.arith.specs.Answers.{sumTold}
 use Rattle.arith.proofs.Refusing.{refused, passed, holds, fails}
 use Rattle.arith.proofs.Formats.{sound}
+use Rattle.arith.proofs.Replies.{told-too, add-told}
 use Rattle.arith.proofs.sum.add.Statement.{statement}
 use Rattle.arith.proofs.sum.add.Tie as tie
 
@@ -17,7 +19,10 @@ refuse-requires c κs = tt
 
 returns : tie.Need-returns
 unfolding addOf
-returns c = let t = c .before in refused Sum.Refused 1 _ _ (c .refuse .ensures) (fails (t .before .known .ensures) (t .if1 .taken))
+returns c =
+    let t = c .before in
+    let a = t .before .before .args in
+    told-too sumTold (add-told (a .width) (a .x) (a .a)) (refused Sum.Refused 1 _ _ (c .refuse .ensures) (fails (t .before .known .ensures) (t .if1 .taken)))
 
 format-of-requires : tie.Need-format-of-requires
 format-of-requires c κs = tt
@@ -30,8 +35,9 @@ unfolding addOf
 returns-2 c =
     let s1 = c .before .before in
     let a = s1 .before .before .args in
-    passed Sum.Refused 1 _ _ (holds (s1 .before .known .ensures) (s1 .if1 .left))
-    (c .add-in .ensures ∙ ap (λ (F : Format). addIn F (a .x) (a .a)) (c .before .format-of .ensures))
+    told-too sumTold (add-told (a .width) (a .x) (a .a))
+    (passed Sum.Refused 1 _ _ (holds (s1 .before .known .ensures) (s1 .if1 .left))
+    (c .add-in .ensures ∙ ap (λ (F : Format). addIn F (a .x) (a .a)) (c .before .format-of .ensures)))
 
 pub add-spec : {M : Type 1} → statement M
 add-spec = tie.close (tie.spec known-requires refuse-requires returns format-of-requires add-in-requires returns-2)

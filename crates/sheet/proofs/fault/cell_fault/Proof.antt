@@ -17,11 +17,11 @@ enum-known-r c = search needs
 
 returns : tie.Need-returns
 unfolding cellFault
-returns c = ap imageNumber (sym (c .enum-told .given .1) ∙ c .before .before .canonical .ensures)
+returns c = ap imageNumber (sym (c .enum-told .given .1) ∙ c .before .before .canonical .ensures .0)
 
 returns-2 : tie.Need-returns-2
 unfolding cellFault
-returns-2 c = ap imageNumber (sym (c .before .r .given .1) ∙ c .before .before .before .canonical .ensures)
+returns-2 c = ap imageNumber (sym (c .before .r .given .1) ∙ c .before .before .before .canonical .ensures .0)
 
 pub cell-fault-spec : {M : Type 1} → statement M
 cell-fault-spec = tie.close (tie.spec canonical-requires enum-told enum-known-r returns returns-2)

@@ -134,7 +134,7 @@ sums-again c =
     let l = c .before .before .before .before .before .before .before .before .before .sums in
     let n = long (c .before .before .before .before .before .before .before .before .before .before .before .before .before) in
     let few = h .few-sums in
-    let o = step-on (s .width) (s .«cell_count») (h .known) (getD (s .sums) (l .k) noSum) (names (c .before .before .before .before .before .before .before .before)) (l .cells) (l .inv .2) _ _ _ (sym (c .before .before .before .narrow .ensures) ∙ c .before .p .given .1) in
+    let o = step-on (s .width) (s .«cell_count») (h .known) (getD (s .sums) (l .k) noSum) (names (c .before .before .before .before .before .before .before .before)) (l .cells) (l .inv .2) _ _ _ (sym (c .before .before .before .narrow .ensures .0) ∙ c .before .p .given .1) in
     (omega arith, sym (pass-on (fractionOf (s .width)) (exponentOf (s .width)) (s .sums) (s .«sum_count») (l .k) (boxIn (s .width) (s .«cell_count») (l .cells)) _ (omega arith) (omega arith) (o .0)) ∙ l .inv .1, o .1)
 
 same-cells-requires : tie.Need-same-cells-requires Inv-sums μ-sums Inv-passes μ-passes
@@ -161,7 +161,7 @@ returns c =
     let l = c .before .before .before .before .before .before .before .before .sums in
     let n = long (c .before .before .before .before .before .before .before .before .before .before .before .before) in
     let few = h .few-sums in
-    let off = step-off (s .width) (s .«cell_count») (h .known) (getD (s .sums) (l .k) noSum) (names (c .before .before .before .before .before .before .before)) (l .cells) (l .inv .2) _ (sym (c .before .before .narrow .ensures) ∙ c .enum-told .given .1) in
+    let off = step-off (s .width) (s .«cell_count») (h .known) (getD (s .sums) (l .k) noSum) (names (c .before .before .before .before .before .before .before)) (l .cells) (l .inv .2) _ (sym (c .before .before .narrow .ensures .0) ∙ c .enum-told .given .1) in
     let gone = sym (l .inv .1) ∙ pass-off (fractionOf (s .width)) (exponentOf (s .width)) (s .sums) (s .«sum_count») (l .k) (boxIn (s .width) (s .«cell_count») (l .cells)) (omega arith) (omega arith) off in
     let end = sym (p .inv .0) ∙ run-broken (fractionOf (s .width)) (exponentOf (s .width)) (usedSums s) (p .pass) (boxIn (s .width) (s .«cell_count») (p .cells)) (s .limit - p .pass) (l .k) gone in
     subst (EndsAs s _) (sym end) refl

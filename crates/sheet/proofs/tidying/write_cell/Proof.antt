@@ -18,12 +18,12 @@ enum-told c = search needs
 returns : tie.Need-returns
 returns c =
     let s = c .before .before .before .before .args in
-    written (s .width) (s .cell) _ (sym (c .before .before .before .canonical .ensures) ∙ c .before .i .given .1)
+    written (s .width) (s .cell) _ (sym (c .before .before .before .canonical .ensures .0) ∙ c .before .i .given .1)
 
 returns-2 : tie.Need-returns-2
 returns-2 c =
     let s = c .before .before .before .args in
-    absurd (not-refused (s .width) (s .cell) _ (c .before .before .before .pre) (sym (c .before .before .canonical .ensures) ∙ c .enum-told .given .1))
+    absurd (not-refused (s .width) (s .cell) _ (c .before .before .before .pre) (sym (c .before .before .canonical .ensures .0) ∙ c .enum-told .given .1))
 
 pub write-cell-spec : {M : Type 1} → statement M
 write-cell-spec = tie.close (tie.spec canonical-requires enum-known-i enum-told returns returns-2)

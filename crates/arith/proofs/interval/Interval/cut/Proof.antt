@@ -4,8 +4,10 @@ use Rattle.arith.specs.declared.interval.Cut.the-variants as Cut
 use Rattle.arith.specs.declared.format.Format.{Format}
 use Rattle.arith.specs.Formats.{Sound}
 use Rattle.arith.specs.Intervals.{cutIn, cutOf}
+use Rattle.arith.specs.Answers.{cutTold}
 use Rattle.arith.proofs.Refusing.{refused, passed, holds, fails}
 use Rattle.arith.proofs.Formats.{sound}
+use Rattle.arith.proofs.Replies.{told-too, cut-told}
 use Rattle.arith.proofs.interval.Interval.cut.Statement.{statement}
 use Rattle.arith.proofs.interval.Interval.cut.Tie as tie
 
@@ -17,7 +19,10 @@ refuse-requires c κs = tt
 
 returns : tie.Need-returns
 unfolding cutOf
-returns c = let t = c .before in refused Cut.Refused 1 _ _ (c .refuse .ensures) (fails (t .before .known .ensures) (t .if1 .taken))
+returns c =
+    let t = c .before in
+    let a = t .before .before .args in
+    told-too cutTold (cut-told (a .width) (a .self) (a .other)) (refused Cut.Refused 1 _ _ (c .refuse .ensures) (fails (t .before .known .ensures) (t .if1 .taken)))
 
 format-of-requires : tie.Need-format-of-requires
 format-of-requires c κs = tt
@@ -30,8 +35,9 @@ unfolding cutOf
 returns-2 c =
     let s1 = c .before .before in
     let a = s1 .before .before .args in
-    passed Cut.Refused 1 _ _ (holds (s1 .before .known .ensures) (s1 .if1 .left))
-    (c .cut-in .ensures ∙ ap (λ (F : Format). cutIn F (a .self) (a .other)) (c .before .format-of .ensures))
+    told-too cutTold (cut-told (a .width) (a .self) (a .other))
+    (passed Cut.Refused 1 _ _ (holds (s1 .before .known .ensures) (s1 .if1 .left))
+    (c .cut-in .ensures ∙ ap (λ (F : Format). cutIn F (a .self) (a .other)) (c .before .format-of .ensures)))
 
 pub cut-spec : {M : Type 1} → statement M
 cut-spec = tie.close (tie.spec known-requires refuse-requires returns format-of-requires cut-in-requires returns-2)

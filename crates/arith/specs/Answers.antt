@@ -1,0 +1,70 @@
+-- 01's reply as plain numbers, and what each case of an answer's enum tells of it: number, place and values. Assumes nothing.
+use mathlib.Core.List.{List, [], _∷_, _++_}
+use Prim.Native.Nat.{ℕ}
+use lib.Ieee.{binary64, toBits}
+use Rattle.arith.specs.declared.refusal.Refusal.{Refusal}
+use Rattle.arith.specs.declared.interval.Interval.{Interval}
+use Rattle.arith.specs.declared.sum.Sum.{Sum}
+use Rattle.arith.specs.declared.sum.Sum.the-variants as Sum
+use Rattle.arith.specs.declared.interval.Cut.{Cut}
+use Rattle.arith.specs.declared.interval.Cut.the-variants as Cut
+use Rattle.arith.specs.declared.interval.Image.{Image}
+use Rattle.arith.specs.declared.interval.Image.the-variants as Image
+use Rattle.arith.specs.declared.narrow.Narrowed.{Narrowed}
+use Rattle.arith.specs.declared.narrow.Narrowed.the-variants as Narrowed
+use Rattle.arith.specs.declared.floats.Floats.{Floats}
+use Rattle.arith.specs.declared.floats.Floats.the-variants.{Point, Span, None}
+use Rattle.arith.specs.declared.floats.FloatAnswer.{FloatAnswer}
+use Rattle.arith.specs.declared.floats.FloatAnswer.the-variants as FloatAnswer
+
+-- ---- a reply
+-- 01's number, 0 where nothing is refused; the place; the values, none with a refusal
+pub record Reply (A : Type 0) : Type 0 where
+  pub number : ℕ
+  pub place : ℕ
+  pub values : List A
+
+-- a result
+abbrev pub gives : {A : Type 0} → List A → Reply A
+gives values = record { number = 0; place = 0; values = values }
+
+-- a refusal
+abbrev pub refuses : {A : Type 0} → Refusal → Reply A
+refuses r = record { number = r .number; place = r .place; values = [] }
+
+-- an interval's ends, low then high
+abbrev pub twoEnds : Interval → List ℕ
+twoEnds I = I .low ∷ I .high ∷ []
+
+-- ---- what each case tells
+-- the forward sum: its pattern and mark
+abbrev pub sumTold : Sum → Reply ℕ
+sumTold (Sum.Is p mark) = gives (p ∷ mark ∷ [])
+sumTold (Sum.Refused r) = refuses r
+
+-- the cut: its ends, or no value where nothing is shared
+abbrev pub cutTold : Cut → Reply ℕ
+cutTold (Cut.Shared I) = gives (twoEnds I)
+cutTold Cut.Empty = gives []
+cutTold (Cut.Refused r) = refuses r
+
+-- the shift, the mirror and the canonical form: the ends
+abbrev pub imageTold : Image → Reply ℕ
+imageTold (Image.Is I) = gives (twoEnds I)
+imageTold (Image.Refused r) = refuses r
+
+-- the narrowing of one sum: the six ends, of x, a, b
+abbrev pub narrowedTold : Narrowed → Reply ℕ
+narrowedTold (Narrowed.Ends x a b) = gives (twoEnds x ++ twoEnds a ++ twoEnds b)
+narrowedTold (Narrowed.Refused r) = refuses r
+
+-- an interval as floats: the patterns of one float, of two, or of none
+abbrev pub floatPatterns : Floats → List ℕ
+floatPatterns (Point v) = toBits binary64 v ∷ []
+floatPatterns (Span v w) = toBits binary64 v ∷ toBits binary64 w ∷ []
+floatPatterns None = []
+
+-- the narrowing as floats: those of x, of a and of b
+abbrev pub floatsTold : FloatAnswer → Reply (List ℕ)
+floatsTold (FloatAnswer.Values x a b) = gives (floatPatterns x ∷ floatPatterns a ∷ floatPatterns b ∷ [])
+floatsTold (FloatAnswer.Refused r) = refuses r
