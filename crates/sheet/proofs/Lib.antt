@@ -6,6 +6,7 @@ pub mod Boxes
 pub mod Demand
 pub mod Runs
 pub mod Outcomes
+pub mod Unnamed
 pub mod Comparing
 pub mod Places
 pub mod Steps
