@@ -1,28 +1,20 @@
 //! The C entry's work without proofs: the same refusals and answers, by galloping search over the hardware's addition.
 
-use crate::floats::{Binary32, Binary64, Range, Width};
+use crate::ends;
+use crate::floats::{Binary32, Binary64, Width};
 use crate::narrowing::narrow;
 
 fn narrow_at<W: Width>(ends: [u64; 6], result: &mut [u8]) -> u64 {
-    let mut places = [0; 6];
-    for (place, pattern) in places.iter_mut().zip(ends) {
-        match W::place(pattern) {
-            Some(p) => *place = p,
-            None => return 2,
-        }
-    }
-    let range = |i: usize| Range { low: places[i], high: places[i + 1] };
-    let (x, a, b) = (range(0), range(2), range(4));
-    if [x, a, b].iter().any(|r| r.low > r.high) {
-        return 3;
-    }
+    let [x, a, b] = match ends::ranges::<W>(ends) {
+        Ok(ranges) => ranges,
+        Err(number) => return number,
+    };
     let Some(n) = narrow::<W>(x, a, b) else { return 11 };
     if result.len() < 48 {
         return 13;
     }
-    let out = [n.x.low, n.x.high, n.a.low, n.a.high, n.b.low, n.b.high];
-    for (bytes, place) in result.chunks_exact_mut(8).zip(out) {
-        bytes.copy_from_slice(&W::pattern(place).to_le_bytes());
+    for (bytes, pattern) in result.chunks_exact_mut(8).zip(ends::patterns::<W>([n.x, n.a, n.b])) {
+        bytes.copy_from_slice(&pattern.to_le_bytes());
     }
     0
 }

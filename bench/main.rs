@@ -7,14 +7,17 @@
 
 #[path = "../tests/common/cases.rs"]
 mod cases;
-#[path = "../tests/common/entry.rs"]
-mod entry;
+#[path = "../tests/common/ends.rs"]
+mod ends;
 #[path = "../tests/common/floats.rs"]
 mod floats;
 #[path = "../tests/common/narrowing.rs"]
 mod narrowing;
 #[path = "../tests/common/sheet.rs"]
 mod sheet;
+#[allow(dead_code)]
+#[path = "../bindings/tazsmibor.rs"]
+mod tazsmibor;
 #[allow(dead_code)]
 #[path = "../tests/common/words.rs"]
 mod words;
@@ -85,9 +88,8 @@ pub fn report(what: &str, library: f64, baseline: f64) {
 
 fn narrowing<W: Width>(mix: &str, make: impl Fn(&mut Words) -> [Range; 3]) {
     let mut words = Words(0x9E37_79B9_7F4A_7C15);
-    let ends = |[x, a, b]: [Range; 3]| [x.low, x.high, a.low, a.high, b.low, b.high].map(W::pattern);
-    let cases: Vec<[u64; 6]> = (0..CASES).map(|_| ends(make(&mut words))).collect();
-    let (library, answers) = time(entry::call, W::BITS, &cases);
+    let cases: Vec<[u64; 6]> = (0..CASES).map(|_| ends::patterns::<W>(make(&mut words))).collect();
+    let (library, answers) = time(tazsmibor::entry, W::BITS, &cases);
     let (baseline, expected) = time(baseline::call, W::BITS, &cases);
     assert_eq!(answers, expected, "{mix}: the baseline answers otherwise");
     report(&format!("narrowing, width {}, {mix}", W::BITS), library, baseline);

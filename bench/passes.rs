@@ -4,7 +4,7 @@
 //! A part of the sheet counts upward: each pass moves ends by a few floats, so a run makes all the passes that its limit
 //! allows. The time of a run of one pass is taken off, and with it the start of the program and the reading of the text.
 
-use crate::{entry, report, report_beside, sheet, time};
+use crate::{report, report_beside, sheet, tazsmibor, time};
 use std::io::Write;
 use std::process::{Command, Stdio};
 use std::time::Instant;
@@ -72,7 +72,7 @@ impl Sheet {
             let [x, a, b] = sum.map(|i| self.cells[i]);
             let ends = [x[0], x[1], a[0], a[1], b[0], b[1]];
             let mut result = [0; 48];
-            assert_eq!(entry::call(64, ends, &mut result), 0, "bench: a sum of the sheet has no triple");
+            assert_eq!(tazsmibor::entry(64, ends, &mut result), 0, "bench: a sum of the sheet has no triple");
             let end = |i: usize| u64::from_le_bytes(result[8 * i..8 * i + 8].try_into().unwrap());
             for (j, i) in sum.iter().enumerate() {
                 self.cells[*i] = [end(2 * j), end(2 * j + 1)];
@@ -119,7 +119,7 @@ pub fn pass(program: &str) {
     sheet.pass();
     let narrowings: Vec<[u64; 6]> = (0..PASSES).flat_map(|_| sheet.pass()).collect();
     assert!(printed.ends_with(&sheet.lines()), "bench: the C entry and the program leave different cells");
-    let (narrowing, _) = time(entry::call, 64, &narrowings);
+    let (narrowing, _) = time(tazsmibor::entry, 64, &narrowings);
     report_beside(what, library, "its 128 narrowings", 128.0 * narrowing);
 }
 

@@ -1,7 +1,7 @@
 //! The narrowing of one sum x + a = b for Rust programs, over the static library `libarith.a` and its C entry.
 //!
-//! Safe: every range of `f32` or `f64` gets an answer. Build the library with `rt staticlib arith`, add this file as a module
-//! and link with `-l static=arith`.
+//! `narrow` takes ranges of `f32` or `f64`, `entry` patterns and a buffer as C does. Both are safe: every call gets an answer.
+//! Build the library with `rt staticlib arith`, add this file as a module and link with `-l static=arith`.
 
 use std::ops::RangeInclusive;
 
@@ -59,12 +59,19 @@ impl Float for f64 {
     }
 }
 
-/// Cuts three ranges down to the values that stand in some x + a = b.
+/// The C entry on any numbers and any buffer, as include/tazsmibor.h has it: 0 with the six ends in the first 48 bytes, or the
+/// number of a refusal and the buffer as it was.
+pub fn entry(width: u64, ends: [u64; 6], result: &mut [u8]) -> u64 {
+    let [xl, xh, al, ah, bl, bh] = ends;
+    // The pointer and the length are a slice's, so the bytes are there, are this caller's alone, and the pointer is not null.
+    unsafe { tazsmibor_narrow(width, xl, xh, al, ah, bl, bh, result.as_mut_ptr(), result.len()) }
+}
+
+/// Cuts three ranges down: each to the least and the greatest of its values that stand in some x + a = b.
 pub fn narrow<F: Float>(x: RangeInclusive<F>, a: RangeInclusive<F>, b: RangeInclusive<F>) -> Narrowing<F> {
     let mut result = [0u8; 48];
-    let [[xl, xh], [al, ah], [bl, bh]] = [x, a, b].map(|r| [r.start().pattern(), r.end().pattern()]);
-    // The pointer and the length are those of an array on this stack, which nothing else refers to.
-    let answer = unsafe { tazsmibor_narrow(F::WIDTH, xl, xh, al, ah, bl, bh, result.as_mut_ptr(), result.len()) };
+    let ends = [x.start(), x.end(), a.start(), a.end(), b.start(), b.end()].map(|end| end.pattern());
+    let answer = entry(F::WIDTH, ends, &mut result);
     let end = |i: usize| F::float(u64::from_le_bytes(result[8 * i..8 * i + 8].try_into().expect("8 bytes")));
     match answer {
         0 => Narrowing::Ends { x: end(0)..=end(1), a: end(2)..=end(3), b: end(4)..=end(5) },

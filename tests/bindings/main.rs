@@ -1,38 +1,71 @@
-//! The Rust wrapper in bindings/, as a Rust program uses it: each case of its enum at both widths. Status 1 at any difference.
+//! The Rust wrapper in bindings/, as a Rust program uses it: each case of its enum at both widths, and the entry over a buffer.
+//! Status 1 at any difference.
 
 #[path = "../../bindings/tazsmibor.rs"]
 mod tazsmibor;
 
 use std::fmt::Debug;
 use std::ops::RangeInclusive;
-use tazsmibor::{Float, Narrowing, narrow};
+use tazsmibor::{Float, Narrowing, entry, narrow};
 
-/// The readings of one width, with its largest floats, half an ulp of 1 down and up, and an infinity: how many calls, and how many not as expected.
-fn readings<F: Float + Debug + PartialEq>(largest: [F; 2], one: F, two: F, half_ulp: [F; 2], infinity: F) -> [usize; 2] {
-    let all = || largest[0]..=largest[1];
-    let point = |v: F| v..=v;
-    let cases: [(&str, RangeInclusive<F>, RangeInclusive<F>, RangeInclusive<F>, Narrowing<F>); 4] = [
-        ("a = b = 1", all(), point(one), point(one), Narrowing::Ends { x: half_ulp[0]..=half_ulp[1], a: point(one), b: point(one) }),
-        ("nothing reaches", point(one), point(one), point(one), Narrowing::NoSolution),
-        ("infinity", all(), point(infinity), point(one), Narrowing::NotFinite),
-        ("low above high", all(), two..=one, point(one), Narrowing::OutOfOrder),
-    ];
-    let (calls, mut wrong) = (cases.len(), 0);
-    for (what, x, a, b, expected) in cases {
-        let got = narrow(x, a, b);
+type Case<F> = (&'static str, [RangeInclusive<F>; 3], Narrowing<F>);
+
+/// How many calls were made, and how many were not as expected.
+#[derive(Default)]
+struct Tally {
+    calls: usize,
+    wrong: usize,
+}
+
+impl Tally {
+    fn compare<T: Debug + PartialEq>(&mut self, what: &str, got: T, expected: T) {
+        self.calls += 1;
         if got != expected {
-            println!("width {}, {what}: {got:?}, expected {expected:?}", F::WIDTH);
-            wrong += 1;
+            self.wrong += 1;
+            println!("{what}: {got:?}, expected {expected:?}");
         }
     }
-    [calls, wrong]
+
+    fn narrowings<F: Float + Debug + PartialEq>(&mut self, cases: Vec<Case<F>>) {
+        for (what, [x, a, b], expected) in cases {
+            self.compare(&format!("width {}, {what}", F::WIDTH), narrow(x, a, b), expected);
+        }
+    }
+}
+
+/// The cases of `f32` or `f64`.
+macro_rules! cases {
+    ($float:ident) => {{
+        let all = || $float::MIN..=$float::MAX;
+        let (one, ulp): (RangeInclusive<$float>, $float) = (1.0..=1.0, $float::EPSILON);
+        let ends = |x, a, b| Narrowing::Ends { x, a, b };
+        let cases: Vec<Case<$float>> = vec![
+            // Below 1 floats are twice as dense, so half an ulp down is half as far as half an ulp up.
+            ("a = b = 1", [all(), one.clone(), one.clone()], ends(-ulp / 4.0..=ulp / 2.0, one.clone(), one.clone())),
+            ("b alone narrowed", [1.0..=2.0, 1.0..=2.0, 1.0..=4.0], ends(1.0..=2.0, 1.0..=2.0, 2.0..=4.0)),
+            ("x and a narrowed", [0.0..=9.0, 0.25..=5.0, one.clone()], ends(0.0..=0.75 + ulp / 2.0, 0.25..=1.0, one.clone())),
+            ("nothing reaches", [one.clone(), one.clone(), one.clone()], Narrowing::NoSolution),
+            ("infinity", [all(), $float::INFINITY..=$float::INFINITY, one.clone()], Narrowing::NotFinite),
+            ("NaN", [all(), one.clone(), 1.0..=$float::NAN], Narrowing::NotFinite),
+            ("low above high", [all(), 2.0..=1.0, one.clone()], Narrowing::OutOfOrder),
+        ];
+        cases
+    }};
 }
 
 fn main() {
-    // Below 1 floats are twice as dense, so half an ulp down is half as far as half an ulp up.
-    let narrow = readings::<f32>([-f32::MAX, f32::MAX], 1.0, 2.0, [-f32::EPSILON / 4.0, f32::EPSILON / 2.0], f32::INFINITY);
-    let wide = readings::<f64>([-f64::MAX, f64::MAX], 1.0, 2.0, [-f64::EPSILON / 4.0, f64::EPSILON / 2.0], f64::INFINITY);
-    let [calls, wrong] = [0, 1].map(|i| narrow[i] + wide[i]);
-    println!("bindings: {calls} calls, {wrong} not as expected");
-    std::process::exit((wrong != 0).into());
+    let mut tally = Tally::default();
+    tally.narrowings(cases!(f32));
+    tally.narrowings(cases!(f64));
+    // The README's call.
+    let readme = narrow(-1e6..=1e6, 0.25..=0.5, 1.0..=1.0);
+    let (x, a) = (0.49999999999999994..=0.7500000000000001, 0.25..=0.5);
+    tally.compare("the README's call", readme, Narrowing::Ends { x, a, b: 1.0..=1.0 });
+    let mut buffer = [0xA5; 50];
+    tally.compare("the entry at width 0", entry(0, [0; 6], &mut buffer), 1);
+    tally.compare("and its buffer", buffer, [0xA5; 50]);
+    tally.compare("the entry on zeros", entry(64, [0; 6], &mut buffer), 0);
+    tally.compare("and its buffer", buffer[47..] == [0, 0xA5, 0xA5], true);
+    println!("bindings: {} calls, {} not as expected", tally.calls, tally.wrong);
+    std::process::exit((tally.wrong != 0).into());
 }

@@ -34,43 +34,75 @@ static void expect(const char *what, uint64_t width, const uint64_t in[6], size_
 #define ONE 0x3FF0000000000000
 #define TWO 0x4000000000000000
 
-int main(void)
-{
-    static const uint64_t zeros[6];
+static const uint64_t none[6]; /* the ends where none are expected */
 
+/* width 32: x and a from 1 to 2, b from 1 to 4 */
+static const uint64_t halves[6] = { 0x3F800000, 0x40000000, 0x3F800000, 0x40000000, 0x3F800000, 0x40800000 };
+
+static void answered(void)
+{
     const uint64_t ones[6] = { LOWEST, LARGEST, ONE, ONE, ONE, ONE };
     const uint64_t ones_out[6] = { 0xBC90000000000000, 0x3CA0000000000000, ONE, ONE, ONE, ONE };
     expect("a = b = 1", 64, ones, 48, 0, ones_out);
-    expect("later bytes are kept", 64, ones, 56, 0, ones_out);
-    expect("a byte short", 64, ones, 47, 13, zeros);
-    expect("no bytes", 64, ones, 0, 13, zeros);
+    expect("later bytes are kept", 64, ones, ROOM, 0, ones_out);
+    expect("a byte short", 64, ones, 47, 13, none);
+    expect("no bytes", 64, ones, 0, 13, none);
 
     const uint64_t ones32[6] = { 0xFF7FFFFF, 0x7F7FFFFF, 0x3F800000, 0x3F800000, 0x3F800000, 0x3F800000 };
     const uint64_t ones32_out[6] = { 0xB3000000, 0x33800000, 0x3F800000, 0x3F800000, 0x3F800000, 0x3F800000 };
     expect("a = b = 1, width 32", 32, ones32, 48, 0, ones32_out);
+    expect("a byte short, width 32", 32, ones32, 47, 13, none);
+
+    const uint64_t halves_out[6] = { 0x3F800000, 0x40000000, 0x3F800000, 0x40000000, 0x40000000, 0x40800000 };
+    expect("b alone narrowed, width 32", 32, halves, ROOM, 0, halves_out);
 
     const uint64_t gap[6] = { LOWEST, LARGEST, TWO, 0x4000000000000001, ONE, ONE };
     const uint64_t gap_out[6] = { 0xBFF0000000000002, 0xBFEFFFFFFFFFFFFF, TWO, 0x4000000000000001, ONE, ONE };
     expect("two operands, a gap between", 64, gap, 48, 0, gap_out);
 
+    const uint64_t home[6] = { 0xC630000000000000, 0xC330000000000000, ONE, 0x4630000000000000, 0x3FE0000000000000, 0x3FF8000000000000 };
+    const uint64_t home_out[6] = { 0xC33FFFFFFFFFFFFF, 0xC330000000000000, 0x4330000000000001, 0x4340000000000000, ONE, ONE };
+    expect("all three narrowed", 64, home, ROOM, 0, home_out);
+
     const uint64_t zero[6] = { 0x8000000000000000, 0, 0, 0, 0x8000000000000000, ONE };
+    const uint64_t zeros[6] = { 0 };
     expect("zero with its sign clear", 64, zero, 48, 0, zeros);
+}
 
+static void refused(void)
+{
     const uint64_t even[6] = { 0x4340000000000000, 0x4350000000000000, 0xC350000000000000, 0xC340000000000000, ONE, ONE };
-    expect("every sum is even", 64, even, 48, 11, zeros);
-    expect("11 before 13", 64, even, 0, 11, zeros);
+    expect("every sum is even", 64, even, ROOM, 11, none);
+    expect("11 before 13", 64, even, 0, 11, none);
 
-    const uint64_t infinite[6] = { LOWEST, LARGEST, ONE, ONE, 0x7FF0000000000000, TWO };
-    expect("infinity, and out of order", 64, infinite, 48, 2, zeros);
-    expect("bits beyond width 32", 32, ones, 48, 2, zeros);
+    const uint64_t crossed[6] = { TWO, ONE, TWO, ONE, TWO, ONE };
+    expect("low above high", 64, crossed, 48, 3, none);
+    expect("3 before 13", 64, crossed, 0, 3, none);
+    expect("width 33", 33, crossed, 48, 1, none);
+    expect("1 before 2 and 13", 0, crossed, 0, 1, none);
 
-    const uint64_t crossed[6] = { TWO, ONE, ONE, TWO, ONE, TWO };
-    expect("low above high", 64, crossed, 48, 3, zeros);
-    expect("3 before 13", 64, crossed, 0, 3, zeros);
+    /* each end made an infinity, a NaN, or longer than the width; each interval with its ends exchanged */
+    for (int i = 0; i < 6; i++) {
+        uint64_t bad[6];
+        memcpy(bad, crossed, sizeof bad);
+        bad[i] = 0x7FF0000000000000;
+        expect("infinity, and out of order", 64, bad, ROOM, 2, none);
+        bad[i] = 0xFFF0000000000001;
+        expect("NaN, and no bytes", 64, bad, 0, 2, none);
+        memcpy(bad, halves, sizeof bad);
+        bad[i] |= 0x100000000;
+        expect("bits beyond width 32", 32, bad, ROOM, 2, none);
+        memcpy(bad, halves, sizeof bad);
+        bad[i] = halves[i ^ 1];
+        bad[i ^ 1] = halves[i];
+        expect("ends exchanged, width 32", 32, bad, ROOM, 3, none);
+    }
+}
 
-    expect("width 33", 33, crossed, 48, 1, zeros);
-    expect("1 before 2", 0, infinite, 0, 1, zeros);
-
+int main(void)
+{
+    answered();
+    refused();
     printf("entry.c: %d calls, %d not as expected\n", calls, failures);
     return failures != 0;
 }

@@ -32,42 +32,31 @@ pub trait Width {
     }
 }
 
-pub struct Binary32;
-pub struct Binary64;
+/// A width over one of the hardware's float types.
+macro_rules! width {
+    ($name:ident, $bits:expr, $float:ty) => {
+        pub struct $name;
 
-fn float32(place: Place) -> f32 {
-    let size = f32::from_bits(place.unsigned_abs() as u32);
-    if place < 0 { -size } else { size }
+        impl Width for $name {
+            const BITS: u64 = $bits;
+            const FRACTION: u32 = <$float>::MANTISSA_DIGITS - 1;
+            const LARGEST: Place = <$float>::MAX.to_bits() as Place;
+
+            fn sum(x: Place, a: Place) -> Place {
+                let float = |place: Place| {
+                    let size = <$float>::from_bits(place.unsigned_abs() as _);
+                    if place < 0 { -size } else { size }
+                };
+                let b = float(x) + float(a);
+                let size = b.abs().to_bits() as Place;
+                if b < 0.0 { -size } else { size }
+            }
+        }
+    };
 }
 
-fn float64(place: Place) -> f64 {
-    let size = f64::from_bits(place.unsigned_abs());
-    if place < 0 { -size } else { size }
-}
-
-impl Width for Binary32 {
-    const BITS: u64 = 32;
-    const FRACTION: u32 = 23;
-    const LARGEST: Place = 0x7F7F_FFFF;
-
-    fn sum(x: Place, a: Place) -> Place {
-        let b = float32(x) + float32(a);
-        let size = b.abs().to_bits() as i64;
-        if b < 0.0 { -size } else { size }
-    }
-}
-
-impl Width for Binary64 {
-    const BITS: u64 = 64;
-    const FRACTION: u32 = 52;
-    const LARGEST: Place = 0x7FEF_FFFF_FFFF_FFFF;
-
-    fn sum(x: Place, a: Place) -> Place {
-        let b = float64(x) + float64(a);
-        let size = b.abs().to_bits() as i64;
-        if b < 0.0 { -size } else { size }
-    }
-}
+width!(Binary32, 32, f32);
+width!(Binary64, 64, f64);
 
 /// The floats from low to high, by place.
 #[derive(Clone, Copy, PartialEq, Eq, Debug)]

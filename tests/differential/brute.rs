@@ -3,6 +3,10 @@
 use crate::floats::{Narrowed, Place, Range, Width};
 
 impl Range {
+    pub fn point(place: Place) -> Range {
+        Range { low: place, high: place }
+    }
+
     pub fn contains(self, place: Place) -> bool {
         self.low <= place && place <= self.high
     }
@@ -13,11 +17,10 @@ struct Hull(Option<Narrowed>);
 
 impl Hull {
     fn add(&mut self, x: Range, a: Place, b: Place) {
-        let point = |p: Place| Range { low: p, high: p };
         let join = |r: Range, s: Range| Range { low: r.low.min(s.low), high: r.high.max(s.high) };
         self.0 = Some(match self.0 {
-            None => Narrowed { x, a: point(a), b: point(b) },
-            Some(n) => Narrowed { x: join(n.x, x), a: join(n.a, point(a)), b: join(n.b, point(b)) },
+            None => Narrowed { x, a: Range::point(a), b: Range::point(b) },
+            Some(n) => Narrowed { x: join(n.x, x), a: join(n.a, Range::point(a)), b: join(n.b, Range::point(b)) },
         });
     }
 }
@@ -29,7 +32,7 @@ pub fn by_operands<W: Width>(x: Range, a: Range, b: Range) -> Option<Narrowed> {
         for q in a.low..=a.high {
             let s = W::sum(p, q);
             if b.contains(s) {
-                hull.add(Range { low: p, high: p }, q, s);
+                hull.add(Range::point(p), q, s);
             }
         }
     }
@@ -37,7 +40,7 @@ pub fn by_operands<W: Width>(x: Range, a: Range, b: Range) -> Option<Narrowed> {
 }
 
 /// The least place from low to high + 1 such that the test holds there and above.
-fn bisect(range: Range, holds: impl Fn(Place) -> bool) -> Place {
+pub fn bisect(range: Range, holds: impl Fn(Place) -> bool) -> Place {
     let (mut low, mut high) = (range.low as i128, range.high as i128 + 1);
     while low < high {
         let middle = (low + high).div_euclid(2);
@@ -59,10 +62,4 @@ pub fn by_sums<W: Width>(x: Range, a: Range, b: Range) -> Option<Narrowed> {
         }
     }
     hull.0
-}
-
-/// Whether x stands in a solution: the sums of x with a range are in order, so the first that reaches b decides.
-pub fn stands<W: Width>(x: Place, a: Range, b: Range) -> bool {
-    let q = bisect(a, |q| b.low <= W::sum(x, q));
-    q <= a.high && W::sum(x, q) <= b.high
 }

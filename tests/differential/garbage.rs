@@ -1,9 +1,11 @@
-//! Random garbage for every parameter of the C entry. Refusals 1, 2 and 3 are expected by the conditions themselves; for three
-//! intervals the answer is 0, 11 or, with fewer than 48 bytes lent, 11 or 13.
+//! Random garbage for every parameter of the C entry: each answer is the number of the first condition that holds, with the
+//! narrowing in the first 48 bytes at 0 and the buffer as it was otherwise.
 
-use crate::entry;
+use crate::ends;
 use crate::floats::{Binary32, Binary64, Width};
 use crate::library;
+use crate::pieces;
+use crate::tazsmibor::entry;
 use crate::words::Words;
 
 const WIDTHS: [u64; 11] = [32, 64, 32, 64, 32, 64, 0, 16, 33, 128, u64::MAX];
@@ -21,38 +23,31 @@ fn pattern(words: &mut Words, width: u64) -> u64 {
     if words.coin() { some ^ sign } else { some }
 }
 
-/// The refusal that the conditions ask for: 1; 2 for any end; 3 for x, a, b; else 0.
-fn refusal(width: u64, ends: [u64; 6]) -> u64 {
-    let places = match width {
-        32 => ends.map(Binary32::place),
-        64 => ends.map(Binary64::place),
-        _ => return 1,
-    };
-    if places.contains(&None) {
-        return 2;
+/// The number that is due at a width: 2, 3, 11, 13 or 0.
+fn number<W: Width>(ends: [u64; 6], room: usize) -> u64 {
+    match ends::ranges::<W>(ends) {
+        Err(number) => number,
+        Ok([x, a, b]) if !pieces::solvable::<W>(x, a, b) => 11,
+        Ok(_) if room < 48 => 13,
+        Ok(_) => 0,
     }
-    if places.chunks(2).any(|p| p[0] > p[1]) { 3 } else { 0 }
 }
 
-/// Whether each answered range is in order and inside the given one, by place.
-fn inside(width: u64, given: [u64; 6], got: [u64; 6]) -> bool {
-    let place = |p: u64| if width == 32 { Binary32::place(p) } else { Binary64::place(p) };
-    (0..3).all(|i| {
-        let ends = [given[2 * i], got[2 * i], got[2 * i + 1], given[2 * i + 1]].map(place);
-        !ends.contains(&None) && ends.is_sorted()
-    })
+/// Whether the buffer holds the narrowing of the ends.
+fn narrows<W: Width>(ends: [u64; 6], after: &[u8]) -> bool {
+    let (given, got) = (ends::ranges::<W>(ends), library::narrowed_in::<W>(after));
+    given.is_ok_and(|ranges| got.is_ok_and(|n| pieces::is_narrowing::<W>(ranges, Some(n))))
 }
 
 /// What is wrong with an answer, if anything.
 fn fault(width: u64, ends: [u64; 6], before: &[u8], after: &[u8], answer: u64) -> Option<&'static str> {
-    let expected = refusal(width, ends);
-    let allowed: &[u64] = match (expected, before.len() < 48) {
-        (0, false) => &[0, 11],
-        (0, true) => &[11, 13],
-        _ => &[expected],
+    let (due, narrows): (u64, fn([u64; 6], &[u8]) -> bool) = match width {
+        32 => (number::<Binary32>(ends, before.len()), narrows::<Binary32>),
+        64 => (number::<Binary64>(ends, before.len()), narrows::<Binary64>),
+        _ => (1, |_, _| false),
     };
-    if !allowed.contains(&answer) {
-        return Some("an answer that is not allowed");
+    if answer != due {
+        return Some("another number was due");
     }
     if answer != 0 {
         return (after != before).then_some("a refused call changed the buffer");
@@ -60,7 +55,7 @@ fn fault(width: u64, ends: [u64; 6], before: &[u8], after: &[u8], answer: u64) -
     if after[48..] != before[48..] {
         return Some("bytes beyond the 48 changed");
     }
-    (!inside(width, ends, library::ends_in(after))).then_some("ends out of order or outside")
+    (!narrows(ends, after)).then_some("the buffer does not hold the narrowing")
 }
 
 /// Makes the calls and answers how many; ends the run at the first fault.
@@ -74,7 +69,7 @@ pub fn run(calls: usize) -> usize {
         }
         let before: Vec<u8> = (0..words.pick(&[48, 49, 64, 47, 0, 7, 100])).map(|_| words.next() as u8).collect();
         let mut after = before.clone();
-        let answer = entry::call(width, ends, &mut after);
+        let answer = entry(width, ends, &mut after);
         if let Some(what) = fault(width, ends, &before, &after, answer) {
             eprintln!("differential: {what}: width {width}, {ends:X?}, {} bytes, answer {answer}", before.len());
             std::process::exit(1);

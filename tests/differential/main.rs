@@ -1,20 +1,25 @@
-//! The static library's narrowing against brute force over the hardware's addition, at both widths, and random garbage for
-//! every parameter. Prints how many cases of each kind were compared; any difference ends it with status 1.
+//! The static library's narrowing at both widths: short ranges against brute force over the hardware's addition, wide ones and
+//! random garbage for every parameter against a rule that decides by pieces. Prints how many cases of each kind were compared;
+//! any difference ends it with status 1.
 
 #[path = "../common/cases.rs"]
 mod cases;
-#[path = "../common/entry.rs"]
-mod entry;
+#[path = "../common/ends.rs"]
+mod ends;
 #[path = "../common/floats.rs"]
 mod floats;
 #[path = "../common/narrowing.rs"]
 mod narrowing;
+#[allow(dead_code)]
+#[path = "../../bindings/tazsmibor.rs"]
+mod tazsmibor;
 #[path = "../common/words.rs"]
 mod words;
 
 mod brute;
 mod garbage;
 mod library;
+mod pieces;
 
 use floats::{Binary32, Binary64, Narrowed, Range, Width};
 use words::Words;
@@ -30,16 +35,26 @@ fn fail<W: Width>(kind: &str, [x, a, b]: [Range; 3], expected: &str, got: &str) 
     std::process::exit(1)
 }
 
-/// The library's answer, held to the expected one; and so is the reference's, which other tests rest on.
+/// The library's answer, held to the expected one.
 fn compare<W: Width>(kind: &str, ranges: [Range; 3], expected: Option<Narrowed>) {
     let [x, a, b] = ranges;
     let got = library::narrow::<W>(x, a, b);
     if got != Ok(expected) {
         fail::<W>(kind, ranges, &format!("{expected:?}"), &format!("{got:?}"));
     }
+    agree::<W>(kind, ranges, expected);
+}
+
+/// The rule by pieces, and the reference that the listing test rests on, held to an answer: so short ranges try the rule, and
+/// on wide ones the rule tries the answer.
+fn agree<W: Width>(kind: &str, ranges: [Range; 3], answer: Option<Narrowed>) {
+    let [x, a, b] = ranges;
+    if !pieces::is_narrowing::<W>(ranges, answer) {
+        fail::<W>(kind, ranges, "another narrowing, by pieces", &format!("{answer:?}"));
+    }
     let reference = narrowing::narrow::<W>(x, a, b);
-    if reference != expected {
-        fail::<W>(kind, ranges, &format!("{expected:?}"), &format!("{reference:?} (the reference)"));
+    if reference != answer {
+        fail::<W>(kind, ranges, &format!("{answer:?}"), &format!("{reference:?} (the reference)"));
     }
 }
 
@@ -80,36 +95,18 @@ fn short_sums<W: Width>(words: &mut Words, placement: &str) -> usize {
     2 * LONG
 }
 
-/// An operand's range narrowed from `given` to `got`: both ends stand in a solution; their outer neighbours and some places
-/// further out do not.
-fn is_extent<W: Width>(words: &mut Words, given: Range, got: Range, other: Range, b: Range) -> bool {
-    let mut outside = vec![got.low - 1, got.high + 1];
-    for _ in 0..16 {
-        outside.push(words.between(given.low, given.high));
-    }
-    outside.retain(|p| given.contains(*p) && !got.contains(*p));
-    brute::stands::<W>(got.low, other, b)
-        && brute::stands::<W>(got.high, other, b)
-        && outside.iter().all(|p| !brute::stands::<W>(*p, other, b))
-}
-
-/// Wide ranges: too many pairs to try, so the operands' ends are tested, and the whole against the reference.
+/// Wide ranges: too many pairs to try, so each of the answer's ends is tested by pieces; and the reference is held to it.
 fn wide_ranges<W: Width>(words: &mut Words, opposite: bool) -> usize {
     let placement = if opposite { "opposite binades" } else { "anywhere" };
     let mut solved = 0;
     for _ in 0..WIDE {
-        let (x, a) = if opposite {
-            cases::opposite_binades::<W>(words)
-        } else {
-            (cases::wide::<W>(words), cases::wide::<W>(words))
-        };
+        let (x, a) =
+            if opposite { cases::opposite_binades::<W>(words) } else { (cases::wide::<W>(words), cases::wide::<W>(words)) };
         let b = if words.below(3) == 0 { cases::wide::<W>(words) } else { cases::about_sum::<W>(words, x, a, 40) };
-        compare::<W>("wide ranges", [x, a, b], narrowing::narrow::<W>(x, a, b));
-        let Ok(Some(n)) = library::narrow::<W>(x, a, b) else { continue };
-        solved += 1;
-        if !is_extent::<W>(words, x, n.x, a, b) || !is_extent::<W>(words, a, n.a, x, b) {
-            fail::<W>("wide ranges", [x, a, b], "least and greatest operands", &format!("{n:?}"));
-        }
+        let answer =
+            library::narrow::<W>(x, a, b).unwrap_or_else(|what| fail::<W>("wide ranges", [x, a, b], "a narrowing", &what));
+        solved += answer.is_some() as usize;
+        agree::<W>("wide ranges", [x, a, b], answer);
     }
     report::<W>("wide ranges", placement, WIDE, solved);
     WIDE

@@ -11,22 +11,32 @@ mod sheet;
 #[path = "../common/words.rs"]
 mod words;
 
+mod documented;
 mod texts;
 
 use std::collections::BTreeMap;
 use std::io::Write;
 use std::process::{Command, Stdio};
+use std::thread::sleep;
+use std::time::Duration;
 use texts::Case;
 
-/// What the program writes for a text.
-fn run(program: &str, text: &[u8]) -> String {
+/// What the program writes for a text that comes in parts, with a pause after each but the last.
+fn run(program: &str, parts: &[&[u8]]) -> String {
     let mut child = Command::new(program)
         .stdin(Stdio::piped())
         .stdout(Stdio::piped())
         .spawn()
         .unwrap_or_else(|e| panic!("listing: cannot start {program}: {e}"));
-    // The program may stop reading early: a closed pipe is no fault.
-    let _ = child.stdin.take().unwrap().write_all(text);
+    let mut input = child.stdin.take().unwrap();
+    for (i, part) in parts.iter().enumerate() {
+        if i != 0 {
+            sleep(Duration::from_millis(20));
+        }
+        // The program may stop reading early: a closed pipe is no fault.
+        let _ = input.write_all(part);
+    }
+    drop(input);
     let output = child.wait_with_output().expect("listing: no output");
     assert!(output.status.success(), "listing: {program} ended with {}", output.status);
     String::from_utf8_lossy(&output.stdout).into_owned()
@@ -38,12 +48,16 @@ fn compare(program: &str, kind: &str, cases: Vec<Case>) -> usize {
     let mut differences = 0;
     for case in &cases {
         let expected = sheet::listing(&case.text);
-        let got = run(program, &case.text);
+        let (first, rest) = case.text.split_at(case.pause);
+        let got = if case.pause == 0 { run(program, &[rest]) } else { run(program, &[first, rest]) };
         let stated = case.printed.as_ref().unwrap_or(&expected);
         if got != expected || stated != &expected {
             differences += 1;
             let text = String::from_utf8_lossy(&case.text[..case.text.len().min(400)]).into_owned();
-            eprintln!("listing: {kind}, {}: text {text:?}\n program   {got:?}\n reference {expected:?}\n stated    {stated:?}", case.name);
+            eprintln!(
+                "listing: {kind}, {}: text {text:?}\n program   {got:?}\n reference {expected:?}\n stated    {stated:?}",
+                case.name
+            );
         }
         let words: Vec<&str> = got.split(['\t', '\n']).collect();
         let ending = if words[0] == "refused" { words[..2].join(" ") } else { words[0].to_string() };
@@ -56,10 +70,13 @@ fn compare(program: &str, kind: &str, cases: Vec<Case>) -> usize {
 fn main() {
     let program = std::env::args().nth(1).expect("usage: listing PROGRAM");
     let differences = compare(&program, "examples", texts::examples())
+        + compare(&program, "documents", documented::examples())
+        + compare(&program, "in two parts", texts::parted())
         + compare(&program, "refusals", texts::refusals())
         + compare(&program, "sizes", texts::sizes())
         + compare(&program, "damaged", texts::damaged())
-        + compare(&program, "random", texts::random(1500));
+        + compare(&program, "random sheets", texts::random(1500))
+        + compare(&program, "random bytes", texts::garbage(500));
     if differences != 0 {
         eprintln!("listing: {differences} differed");
         std::process::exit(1);

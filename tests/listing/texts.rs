@@ -3,22 +3,29 @@
 use crate::words::Words;
 
 /// A text and what it is.
+#[derive(Clone)]
 pub struct Case {
     pub name: String,
     pub text: Vec<u8>,
     /// What the requirement says is printed, where it does.
     pub printed: Option<String>,
+    /// How many bytes come before a pause; 0 for none.
+    pub pause: usize,
 }
 
 fn tabs(text: &str) -> Vec<u8> {
     text.replace(' ', "\t").into_bytes()
 }
 
-fn case(name: &str, text: &str) -> Case {
-    Case { name: name.to_string(), text: tabs(text), printed: None }
+fn bytes(name: &str, text: Vec<u8>) -> Case {
+    Case { name: name.to_string(), text, printed: None, pause: 0 }
 }
 
-fn printing(name: &str, text: &str, printed: &str) -> Case {
+fn case(name: &str, text: &str) -> Case {
+    bytes(name, tabs(text))
+}
+
+pub fn printing(name: &str, text: &str, printed: &str) -> Case {
     Case { printed: Some(printed.replace(' ', "\t")), ..case(name, text) }
 }
 
@@ -59,6 +66,15 @@ pub fn examples() -> Vec<Case> {
         printing("no sums", "sheet 32 1\ncell 80000000 80000000\n", "settled 1\ncell 0 00000000 00000000\n"),
         printing("empty", "", "refused 4 1\n"),
     ]
+}
+
+/// The same, each in two parts: cut in the head, in the middle and before the last line feed.
+pub fn parted() -> Vec<Case> {
+    let cut = |case: Case| {
+        let last = case.text.len().saturating_sub(1);
+        [3, last / 2, last].map(|pause| Case { pause: pause.min(last), ..case.clone() })
+    };
+    examples().into_iter().flat_map(cut).collect()
 }
 
 /// First lines, each with its refusal.
@@ -134,12 +150,27 @@ pub fn refusals() -> Vec<Case> {
     cases.push(printing("a 65th cell", &format!("{cells}{zero}"), "refused 10 66\n"));
     cases.push(printing("a 65th cell, not finite", &format!("{cells}cell 00000000 7F800000\n"), "refused 2 66\n"));
     cases.push(printing("a 129th sum", &format!("{sums}sum 0 1 2\n"), "refused 10 133\n"));
+    cases.push(printing("a 65th cell, out of order", &format!("{cells}cell 00000001 00000000\n"), "refused 3 66\n"));
+    cases.push(printing("a 129th sum, no such cell", &format!("{sums}sum 3 3 3\n"), "refused 5 133\n"));
     cases.push(printing("a 129th sum, a cell twice", &format!("{sums}sum 0 1 1\n"), "refused 6 133\n"));
     cases.push(printing("the last line not ended", start.trim_end(), "refused 4 4\n"));
     cases
 }
 
-/// Texts of 8,192 and 8,193 bytes, whose first bad line is known.
+/// The longest listing, 2,692 bytes: 64 cells of width 64, two of which count upward by the smallest float for 65,535 passes.
+fn longest() -> Case {
+    let cell = |i: usize, low: &str| match i {
+        0 | 2 => format!("{low} 3FF0000000000000"),
+        1 => "0000000000000001 0000000000000001".to_string(),
+        _ => "0000000000000000 0000000000000000".to_string(),
+    };
+    let given: String = (0..64).map(|i| format!("cell {}\n", cell(i, "0000000000000000"))).collect();
+    let printed: String = (0..64).map(|i| format!("cell {i} {}\n", cell(i, "000000000000FFFF"))).collect();
+    let text = format!("sheet 64 65535\n{given}sum 0 1 2\nsum 2 3 0\n");
+    printing("the longest listing", &text, &format!("stopped 65535\n{printed}"))
+}
+
+/// Texts of 8,192 and 8,193 bytes, whose first bad line is known, and the longest listing.
 pub fn sizes() -> Vec<Case> {
     let zero = "cell 00000000 00000000\n";
     let full = format!("sheet 32 3\n{}", zero.repeat(64));
@@ -153,15 +184,17 @@ pub fn sizes() -> Vec<Case> {
         size("8,193 bytes, malformed", &bad, 8193, "refused 8 0\n"),
         size("a text without a head", &"\n".repeat(8192), 8192, "refused 4 1\n"),
         size("9,000 bytes", &bad, 9000, "refused 8 0\n"),
+        longest(),
     ]
 }
 
 /// A valid text with each byte changed, removed or doubled, and cut off before it.
 pub fn damaged() -> Vec<Case> {
     let wide = tabs(&format!("sheet 64 10\n{CELLS}"));
-    let narrow = tabs("sheet 32 7\ncell FF7FFFFF 7F7FFFFF\ncell 3F800000 40000000\ncell 3F800000 3F800000\nsum 0 1 2\nsum 2 0 1\n");
+    let narrow =
+        tabs("sheet 32 7\ncell FF7FFFFF 7F7FFFFF\ncell 3F800000 40000000\ncell 3F800000 3F800000\nsum 0 1 2\nsum 2 0 1\n");
     let mut cases = vec![];
-    let mut add = |name: String, text: Vec<u8>| cases.push(Case { name, text, printed: None });
+    let mut add = |name: String, text: Vec<u8>| cases.push(bytes(&name, text));
     for base in [wide, narrow] {
         for i in 0..base.len() {
             let (before, after) = (&base[..i], &base[i + 1..]);
@@ -214,4 +247,17 @@ fn random_text(words: &mut Words) -> String {
 pub fn random(count: usize) -> Vec<Case> {
     let mut words = Words(0x2545_F491_4F6C_DD1D);
     (0..count).map(|i| case(&format!("random sheet {i}"), &random_text(&mut words))).collect()
+}
+
+/// Any bytes, or bytes that sheets have, after a head or not; now and then more than 8,192.
+pub fn garbage(count: usize) -> Vec<Case> {
+    let mut words = Words(0xD1B5_4A32_D192_ED03);
+    let mut text = |i: usize| {
+        let head: &[u8] = if words.coin() { b"sheet\t32\t9\n" } else { b"" };
+        let (any, length) = (words.coin(), words.pick(&[0, 1, 7, 40, 300, 8180, 8192, 8193, 20_000]));
+        let mut byte = || if any { words.next() as u8 } else { words.pick(b"\t\n0123489ABFcehlmstu") };
+        let text = head.iter().copied().chain((0..length).map(|_| byte())).collect();
+        bytes(&format!("random bytes {i}"), text)
+    };
+    (0..count).map(&mut text).collect()
 }
