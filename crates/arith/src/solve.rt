@@ -1,8 +1,8 @@
-// The least x in a triple, with an a that goes with it. The search starts at the least x that reaches b's low end with a's high end, and jumps from there over what cannot be.
+// The least x in a triple, with an a that goes with it: x's low end if it stands in one with an end of a. Else the search starts at the least x that reaches b's low end with a's high end, and jumps from there over what cannot be.
 ghost use Prim.Native.Nat.{_≤_, _<_};
-ghost use Rattle.arith.specs.Formats.{Sound};
+ghost use Rattle.arith.specs.Formats.{Sound, Finite, sum};
 ghost use Rattle.arith.specs.Intervals.{Ends};
-ghost use Rattle.arith.specs.Searches.{Frontier, TurnOf, LeadingOf};
+ghost use Rattle.arith.specs.Searches.{Frontier, TrialOf, TurnOf, LeadingOf};
 use crate::clamp::granularity;
 use crate::clamp::lower;
 use crate::clamp::raise;
@@ -25,14 +25,40 @@ pub(crate) enum Pair {
     Absent,
 }
 
-// One turn at x: the least a that makes the sum large enough may make it too large, and then x is too small for the a below it.
-fn advance(format: Format, at: u64, x: Range, a: Range, b: Range) -> Turn
-    requires { ⌜ (Sound format) × (Ends format x) × (Ends format a) × (Ends format b) × (Frontier format x a b at) ⌝ }
+// How the sums of x with a's two ends lie to b: with this end in b, with the low end above b, or with the low end below b.
+pub(crate) enum Trial {
+    Fits(u64),
+    Above,
+    Below,
+}
+
+// x tried with a's two ends, the high one first.
+fn try_ends(format: Format, at: u64, a: Range, b: Range) -> Trial
+    requires { ⌜ (Sound format) × (Finite format at) × (Ends format a) × (a .low ≤ a .high) ⌝ }
+    ensures { λ r. ⌜ TrialOf format a b at r ⌝ }
+{
+    let top = add_ordinals(format, at, a.high);
+    if top < b.low {
+        return Trial::Below;
+    }
+    if top <= b.high {
+        return Trial::Fits(a.high);
+    }
+    let bottom = add_ordinals(format, at, a.low);
+    if bottom < b.low {
+        return Trial::Below;
+    }
+    if bottom <= b.high {
+        return Trial::Fits(a.low);
+    }
+    Trial::Above
+}
+
+// The turn at x where a's low end makes too small a sum: the least a that makes it large enough may make it too large, and then x is too small for the a below it.
+fn jump(format: Format, at: u64, x: Range, a: Range, b: Range) -> Turn
+    requires { ⌜ (Sound format) × (Ends format x) × (Ends format a) × (Ends format b) × (Frontier format x a b at) × (sum format at (a .low) < b .low) ⌝ }
     ensures { λ r. ⌜ TurnOf format x a b at r ⌝ }
 {
-    if b.high < add_ordinals(format, at, a.low) {
-        return Turn::Ended;
-    }
     let Found::At(c) = least_operand(format, at, b.low, a) else {
         return Turn::Ended;
     };
@@ -49,11 +75,26 @@ fn advance(format: Format, at: u64, x: Range, a: Range, b: Range) -> Turn
     }
 }
 
+// One turn at x: a's ends are tried first.
+fn advance(format: Format, at: u64, x: Range, a: Range, b: Range) -> Turn
+    requires { ⌜ (Sound format) × (Ends format x) × (Ends format a) × (Ends format b) × (a .low ≤ a .high) × (Frontier format x a b at) ⌝ }
+    ensures { λ r. ⌜ TurnOf format x a b at r ⌝ }
+{
+    match try_ends(format, at, a, b) {
+        Trial::Fits(c) => Turn::Solved(c),
+        Trial::Above => Turn::Ended,
+        Trial::Below => jump(format, at, x, a, b),
+    }
+}
+
 // The least x in a triple, turn by turn.
 fn search_x(format: Format, x: Range, a: Range, b: Range) -> Pair
     requires { ⌜ (Sound format) × (Ends format x) × (Ends format a) × (Ends format b) ⌝ }
     ensures { λ r. ⌜ LeadingOf format x a b r ⌝ }
 {
+    if a.high < a.low {
+        return Pair::Absent;
+    }
     let Found::At(first) = least_operand(format, a.high, b.low, x) else {
         return Pair::Absent;
     };
@@ -68,13 +109,10 @@ fn search_x(format: Format, x: Range, a: Range, b: Range) -> Pair
 }
 
 // The least x in a triple. Where b has one sign, the operands too coarse for it are left out first.
-pub(crate) fn least_x(format: Format, x: Range, a: Range, b: Range) -> Pair
-    requires { ⌜ (Sound format) × (Ends format x) × (Ends format a) × (Ends format b) ⌝ }
+fn search_clamped(format: Format, x: Range, a: Range, b: Range) -> Pair
+    requires { ⌜ (Sound format) × (Ends format x) × (Ends format a) × (Ends format b) × (b .low ≤ b .high) ⌝ }
     ensures { λ r. ⌜ LeadingOf format x a b r ⌝ }
 {
-    if b.high < b.low {
-        return Pair::Absent;
-    }
     let zero = format.sign;
     let fraction = format.fraction;
     if zero < b.low {
@@ -86,4 +124,25 @@ pub(crate) fn least_x(format: Format, x: Range, a: Range, b: Range) -> Pair
         return search_x(format, lower(format, k, x), lower(format, k, a), b);
     }
     search_x(format, x, a, b)
+}
+
+// The least x in a triple: x's low end where it stands in one with an end of a, else by search.
+pub(crate) fn least_x(format: Format, x: Range, a: Range, b: Range) -> Pair
+    requires { ⌜ (Sound format) × (Ends format x) × (Ends format a) × (Ends format b) ⌝ }
+    ensures { λ r. ⌜ LeadingOf format x a b r ⌝ }
+{
+    if x.high < x.low {
+        return Pair::Absent;
+    }
+    if a.high < a.low {
+        return Pair::Absent;
+    }
+    if b.high < b.low {
+        return Pair::Absent;
+    }
+    match try_ends(format, x.low, a, b) {
+        Trial::Fits(c) => Pair::At { x: x.low, a: c },
+        Trial::Above => Pair::Absent,
+        Trial::Below => search_clamped(format, x, a, b),
+    }
 }

@@ -6,9 +6,9 @@ use Prim.Native.Nat.{ℕ, _-_, _≤_, _<_}
 use native.Mathlib.Nat.{le-refl, le-trans}
 use native.Mathlib.Omega.{arith}
 use Rattle.ladder.specs.Sum.{sum}
-use Rattle.ladder.specs.Solution.{Interval}
+use Rattle.ladder.specs.Solution.{Interval, In}
 use Rattle.ladder.specs.Narrowing.{HasX}
-use Rattle.ladder.specs.Search.{Never, Least, Attains, Frontier, Leading}
+use Rattle.ladder.specs.Search.{Never, Least, Attains, Partner, Frontier, Leading}
 use Rattle.ladder.proofs.Cases.{le-or-lt}
 use Rattle.ladder.proofs.Sum.{sum-comm, sum-mono}
 
@@ -28,13 +28,19 @@ module _ (f e : ℕ) (some : 1 ≤ f) where
     pub frontier-none : Never (Attains f e (A .high) (B .low) X) → Never (HasX f e X A B)
     frontier-none n y w = n y (attains y w)
 
-    module _ (x : ℕ) (r : Frontier f e X A B x) where
-      -- even the least a makes too large a sum, here and further up
-      pub frontier-past : B .high < sum f e x (A .low) → Never (HasX f e X A B)
-      frontier-past h y w =
-          let s = w .solution in
-          omega (arith, sum-mono f e some x y (A .low) (w .a) (r .below y w) (s .a-in .low), s .is, s .b-in .high)
+    -- no triple is below x
+    module _ (x : ℕ) (below : (y : ℕ) → HasX f e X A B y → x ≤ y) where
+      -- x stands in one
+      pub partner-leading : In X x → (a : ℕ) → Partner f e A B x a → Leading f e X A B x a
+      partner-leading i a p = record { solution = record { x-in = i; a-in = p .inside; b-in = p .sum-in; is = refl }; least = below }
 
+      -- even the least a makes too large a sum, here and further up
+      pub past-never : B .high < sum f e x (A .low) → Never (HasX f e X A B)
+      past-never h y w =
+          let s = w .solution in
+          omega (arith, sum-mono f e some x y (A .low) (w .a) (below y w) (s .a-in .low), s .is, s .b-in .high)
+
+    module _ (x : ℕ) (r : Frontier f e X A B x) where
       -- A has no a that makes the sum large enough: then it is empty
       pub frontier-empty : Never (Attains f e x (B .low) A) → Never (HasX f e X A B)
       frontier-empty n y w =
@@ -47,19 +53,16 @@ module _ (f e : ℕ) (some : 1 ≤ f) where
         frontier-hit h =
             let g = l .holds .enough in
             let k = sum-comm f e c x in
-            record {
-              solution = record { x-in = r .inside; a-in = l .holds .inside; b-in = record { low = omega arith; high = h }; is = refl };
-              least = r .below;
-            }
+            partner-leading x (r .below) (r .inside) c (record { inside = l .holds .inside; sum-in = record { low = omega arith; high = h } })
+
+        pub above-low : sum f e x (A .low) < B .low → A .low < c
+        above-low g = elim (le-or-lt c (A .low)) [
+          | inl q ↦ absurd (omega (arith, sum-mono f e some x x c (A .low) (le-refl x) q, sum-comm f e c x, l .holds .enough))
+          | inr q ↦ q
+        ]
 
         -- it makes it too large: the a below c are too small at x, the others too large from x on
-        module _ (h : B .high < sum f e x c) (g : sum f e x (A .low) ≤ B .high) where
-          pub above-low : A .low < c
-          above-low = elim (le-or-lt c (A .low)) [
-            | inl q ↦ absurd (omega (arith, sum-mono f e some x x c (A .low) (le-refl x) q))
-            | inr q ↦ q
-          ]
-
+        module _ (h : B .high < sum f e x c) (g : sum f e x (A .low) < B .low) where
           -- so a triple has an a below c, and reaches B with c - 1
           jumps : (y : ℕ) → HasX f e X A B y → Attains f e (c - 1) (B .low) (record { low = x; high = X .high }) y
           jumps y w =
@@ -96,6 +99,6 @@ module _ (f e : ℕ) (some : 1 ≤ f) where
               short : B .low ≤ sum f e y (c - 1) → y ≤ x → ⊥
               short p q =
                   let k = l .holds .inside in
-                  let t = above-low in
+                  let t = above-low g in
                   let at : Attains f e x (B .low) A (c - 1) = record { inside = record { low = omega arith; high = omega arith }; enough = omega (arith, sum-mono f e some y x (c - 1) (c - 1) q (le-refl (c - 1)), sum-comm f e (c - 1) x) } in
                   omega (arith, l .least (c - 1) at)

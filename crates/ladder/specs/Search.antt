@@ -45,6 +45,11 @@ crossingDown f e a b = below f e (b - 1) + below f e b + 2 * above f e a
 abbrev pub Threshold : ℕ → ℕ → ℕ → ℕ → ℕ → Type 0
 Threshold f e a b x = (y : ℕ) → (b ≤ sum f e y a) ↔ (x ≤ y)
 
+-- a inside A has a sum with x inside B
+pub record Partner (f e : ℕ) (A B : Interval) (x a : ℕ) : Type 0 where
+  pub inside : In A a
+  pub sum-in : In B (sum f e x a)
+
 -- ---- the least x in a triple
 -- none is below x, and some a up to A's high end would make the sum large enough
 pub record Frontier (f e : ℕ) (X A B : Interval) (x : ℕ) : Type 0 where

@@ -1,33 +1,14 @@
 -- `arith::solve::advance` meets its contract: one turn at the frontier. Assumes nothing.
-use Prim.Native.Nat.{_-_, _≤_, _<_}
 use native.Mathlib.Omega.{arith}
 use borrow.Author.Needs.{needs}
-use Rattle.ladder.proofs.Frontier.{frontier-past, frontier-empty, frontier-hit, frontier-next, frontier-end, above-low}
-use Rattle.arith.specs.declared.operand.Found.the-variants.{At, Absent}
-use Rattle.arith.specs.Formats.{sum}
-use Rattle.arith.specs.Searches.{span, Attains, LeastOf}
+use Rattle.ladder.proofs.Frontier.{partner-leading, past-never}
+use Rattle.arith.specs.declared.solve.Trial.the-variants.{Fits, Above, Below}
+use Rattle.arith.specs.Searches.{span, TrialOf}
 use Rattle.arith.proofs.solve.advance.Statement.{statement}
 use Rattle.arith.proofs.solve.advance.Tie as tie
 
--- the least a that makes the sum large enough
-found : (c : tie.After-known-told) → let z = c .before .before .before .before .before .before .before .args in LeastOf (Attains (z .format) (z .at) (z .b .low) (z .a)) (At (c .before .c .given .0 .0))
-found c = rw (c .before .c .given .1) at (c .before .before .before .least-operand .ensures)
-
--- it makes the sum too large, and the least a of all does not
-over : (c : tie.Else2) → let z = c .before .before .before .before .before .before .before .before .before .before .args in (z .b .high < sum (z .format) (z .at) (c .before .before .before .before .c .given .0 .0)) × (sum (z .format) (z .at) (z .a .low) ≤ z .b .high)
-over c = (omega arith, omega arith)
-
-add-ordinals-requires : tie.Need-add-ordinals-requires
-add-ordinals-requires c κs = search needs
-
-returns : tie.Need-returns
-returns c =
-    let z = c .before .before .before in
-    let F = z .args .format in
-    frontier-past (F .fraction) (F .exponent) (z .pre .0 .some) (span (z .args .x)) (span (z .args .a)) (span (z .args .b)) (z .args .at) (z .pre .4) (omega arith)
-
-least-operand-requires : tie.Need-least-operand-requires
-least-operand-requires c κs = search needs
+try-ends-requires : tie.Need-try-ends-requires
+try-ends-requires c κs = search needs
 
 enum-known-c : tie.Need-enum-known-c
 enum-known-c c = search needs
@@ -35,77 +16,33 @@ enum-known-c c = search needs
 enum-told : tie.Need-enum-told
 enum-told c = search needs
 
-returns-2 : tie.Need-returns-2
-returns-2 c =
-    let z = c .before .before .before .before .before .before in
-    let F = z .args .format in
-    let n : LeastOf (Attains F (z .args .at) (z .args .b .low) (z .args .a)) Absent = rw (c .enum-told .given .1) at (c .before .before .least-operand .ensures) in
-    frontier-empty (F .fraction) (F .exponent) (z .pre .0 .some) (span (z .args .x)) (span (z .args .a)) (span (z .args .b)) (z .args .at) (z .pre .4) n
-
-add-ordinals-requires-2 : tie.Need-add-ordinals-requires-2
-add-ordinals-requires-2 c κs =
-    let z = c .before .before .before .before .before .before .before in
-    let F = z .args .format in
-    let l = found c .holds .inside in
-    let i = z .pre .4 .inside in
-    (z .pre .0, record { low = omega arith; high = omega arith }, record { low = omega arith; high = omega arith })
-
-returns-3 : tie.Need-returns-3
-returns-3 c =
-    let z = c .before .before .before .before .before .before .before .before .before .before in
-    let F = z .args .format in
-    frontier-hit (F .fraction) (F .exponent) (z .pre .0 .some) (span (z .args .x)) (span (z .args .a)) (span (z .args .b)) (z .args .at) (z .pre .4) _ (found (c .before .before .before)) (omega arith)
-
-sub-least-operand : tie.Need-sub-least-operand
-sub-least-operand c =
-    let z = c .before .before .before .before .before .before .before .before .before .before in
-    let F = z .args .format in
-    omega (arith, above-low (F .fraction) (F .exponent) (z .pre .0 .some) (span (z .args .x)) (span (z .args .a)) (span (z .args .b)) (z .args .at) (z .pre .4) _ (found (c .before .before .before)) (over c .0) (over c .1))
-
-least-operand-requires-2 : tie.Need-least-operand-requires-2
-least-operand-requires-2 c κs =
-    let z = c .before .before .before .before .before .before .before .before .before .before in
-    let F = z .args .format in
-    let l = found (c .before .before .before) .holds .inside in
-    let i = z .pre .4 .inside in
-    let g = above-low (F .fraction) (F .exponent) (z .pre .0 .some) (span (z .args .x)) (span (z .args .a)) (span (z .args .b)) (z .args .at) (z .pre .4) _ (found (c .before .before .before)) (over c .0) (over c .1) in
-    (z .pre .0, record { low = omega arith; high = omega arith }, z .pre .3 .low, record { low = record { low = omega arith; high = omega arith }; high = z .pre .1 .high })
-
-enum-known-y : tie.Need-enum-known-y
-enum-known-y c = search needs
-
 enum-told-2 : tie.Need-enum-told-2
 enum-told-2 c = search needs
 
-returns-4 : tie.Need-returns-4
-returns-4 c =
-    let z = c .before .before .before .before .before .before .before .before .before .before .before .before .before .before in
-    let F = z .args .format in
-    let m : LeastOf (Attains F (c .before .before .before .before .before .before .before .before .c .given .0 .0 - 1) (z .args .b .low) (record { low = z .args .at; high = z .args .x .high })) (At (c .before .y .given .0 .0)) = rw (c .before .y .given .1) at (c .before .before .before .least-operand2 .ensures) in
-    frontier-next (F .fraction) (F .exponent) (z .pre .0 .some) (span (z .args .x)) (span (z .args .a)) (span (z .args .b)) (z .args .at) (z .pre .4) _ (found (c .before .before .before .before .before .before .before)) (over (c .before .before .before .before) .0) (over (c .before .before .before .before) .1) _ m
+jump-requires : tie.Need-jump-requires
+jump-requires c κs =
+    let z = c .before .before .before in
+    let t : TrialOf (z .args .format) (z .args .a) (z .args .b) (z .args .at) Below = rw (c .enum-told2 .given .1) at (c .before .before .try-ends .ensures) in
+    (z .pre .0, z .pre .1, z .pre .2, z .pre .3, z .pre .5, t)
 
-returns-5 : tie.Need-returns-5
-returns-5 c =
-    let z = c .before .before .before .before .before .before .before .before .before .before .before .before .before in
+returns : tie.Need-returns
+returns c =
+    let z = c .before .before .before .before in
     let F = z .args .format in
-    let n : LeastOf (Attains F (c .before .before .before .before .before .before .before .c .given .0 .0 - 1) (z .args .b .low) (record { low = z .args .at; high = z .args .x .high })) Absent = rw (c .enum-told2 .given .1) at (c .before .before .least-operand2 .ensures) in
-    frontier-end (F .fraction) (F .exponent) (z .pre .0 .some) (span (z .args .x)) (span (z .args .a)) (span (z .args .b)) (z .args .at) (z .pre .4) _ (found (c .before .before .before .before .before .before)) (over (c .before .before .before) .0) (over (c .before .before .before) .1) n
+    let t : TrialOf F (z .args .a) (z .args .b) (z .args .at) (Fits (c .before .c .given .0 .0)) = rw (c .before .c .given .1) at (c .before .before .before .try-ends .ensures) in
+    partner-leading (F .fraction) (F .exponent) (z .pre .0 .some) (span (z .args .x)) (span (z .args .a)) (span (z .args .b)) (z .args .at) (z .pre .5 .below) (z .pre .5 .inside) _ t
+
+returns-2 : tie.Need-returns-2
+returns-2 c =
+    let z = c .before .before .before in
+    let F = z .args .format in
+    let t : TrialOf F (z .args .a) (z .args .b) (z .args .at) Above = rw (c .enum-told .given .1) at (c .before .before .try-ends .ensures) in
+    past-never (F .fraction) (F .exponent) (z .pre .0 .some) (span (z .args .x)) (span (z .args .a)) (span (z .args .b)) (z .args .at) (z .pre .5 .below) t
+
+returns-3 : tie.Need-returns-3
+returns-3 c = search needs
 
 pub advance-spec : {M : Type 1} → statement M
 advance-spec =
     tie.close
-    (tie.spec
-    add-ordinals-requires
-    returns
-    least-operand-requires
-    enum-known-c
-    enum-told
-    returns-2
-    add-ordinals-requires-2
-    returns-3
-    sub-least-operand
-    least-operand-requires-2
-    enum-known-y
-    enum-told-2
-    returns-4
-    returns-5)
+    (tie.spec try-ends-requires enum-known-c enum-told enum-told-2 jump-requires returns returns-2 returns-3)

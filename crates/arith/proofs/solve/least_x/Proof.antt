@@ -1,87 +1,66 @@
--- `arith::solve::least_x` meets its contract: the clamped ranges lose no triple. Assumes nothing.
+-- `arith::solve::least_x` meets its contract: no triple is below x's low end. Assumes nothing.
+use native.Mathlib.Nat.{le-refl}
 use native.Mathlib.Omega.{arith}
 use borrow.Author.Needs.{needs}
-use Rattle.arith.proofs.Bounds.{leading-raised, leading-lowered, raised-ends, lowered-ends}
+use Rattle.ladder.proofs.Frontier.{partner-leading, past-never}
+use Rattle.arith.specs.declared.solve.Trial.the-variants.{Fits, Above}
+use Rattle.arith.specs.Searches.{span, TrialOf}
 use Rattle.arith.proofs.solve.least_x.Statement.{statement}
 use Rattle.arith.proofs.solve.least_x.Tie as tie
 
 returns : tie.Need-returns
-returns c = search needs
-
-sub-granularity : tie.Need-sub-granularity
-sub-granularity c = search needs
-
-sub-granularity-2 : tie.Need-sub-granularity-2
-sub-granularity-2 c = search needs
-
-granularity-requires : tie.Need-granularity-requires
-granularity-requires c κs = search needs
-
-raise-requires : tie.Need-raise-requires
-raise-requires c κs = search needs
-
-raise-requires-2 : tie.Need-raise-requires-2
-raise-requires-2 c κs = search needs
-
-search-x-requires : tie.Need-search-x-requires
-search-x-requires c κs =
-    let z = c .before .before .before .before .before .before .before .before .before in
-    let k = c .before .before .granularity .result in
-    (z .pre .0, raised-ends _ (z .pre .0) k (z .args .x) (z .args .a) (z .args .b) _ (z .args .a) (z .pre .1) (c .before .raise .ensures), raised-ends _ (z .pre .0) k (z .args .a) (z .args .a) (z .args .b) _ (z .args .a) (z .pre .2) (c .raise2 .ensures), z .pre .3)
+returns c y w = let i = w .solution .x-in in omega arith
 
 returns-2 : tie.Need-returns-2
-returns-2 c =
-    let z = c .before .before .before .before .before .before .before .before .before .before in
-    let k = c .before .before .before .granularity in
-    leading-raised (z .args .format) (z .pre .0) (k .result) (z .args .x) (z .args .a) (z .args .b) _ _ (omega arith) (z .pre .3) (k .ensures) (c .before .before .raise .ensures) (c .before .raise2 .ensures) (c .search-x .result) (c .search-x .ensures)
-
-sub-granularity-3 : tie.Need-sub-granularity-3
-sub-granularity-3 c = search needs
-
-granularity-requires-2 : tie.Need-granularity-requires-2
-granularity-requires-2 c κs = search needs
-
-lower-requires : tie.Need-lower-requires
-lower-requires c κs = search needs
-
-lower-requires-2 : tie.Need-lower-requires-2
-lower-requires-2 c κs = search needs
-
-search-x-requires-2 : tie.Need-search-x-requires-2
-search-x-requires-2 c κs =
-    let z = c .before .before .before .before .before .before .before .before .before .before .before in
-    let k = c .before .before .granularity2 .result in
-    (z .pre .0, lowered-ends _ (z .pre .0) k (z .args .x) (z .args .a) (z .args .b) _ (z .args .a) (z .pre .1) (c .before .lower .ensures), lowered-ends _ (z .pre .0) k (z .args .a) (z .args .a) (z .args .b) _ (z .args .a) (z .pre .2) (c .lower2 .ensures), z .pre .3)
+returns-2 c y w = let i = w .solution .a-in in omega arith
 
 returns-3 : tie.Need-returns-3
-returns-3 c =
-    let z = c .before .before .before .before .before .before .before .before .before .before .before .before in
-    let k = c .before .before .before .granularity2 in
-    leading-lowered (z .args .format) (z .pre .0) (k .result) (z .args .x) (z .args .a) (z .args .b) _ _ (omega arith) (z .pre .1) (z .pre .2) (z .pre .3) (k .ensures) (c .before .before .lower .ensures) (c .before .lower2 .ensures) (c .search-x2 .result) (c .search-x2 .ensures)
+returns-3 c y w = let i = w .solution .b-in in omega arith
 
-search-x-requires-3 : tie.Need-search-x-requires-3
-search-x-requires-3 c κs = search needs
+try-ends-requires : tie.Need-try-ends-requires
+try-ends-requires c κs = search needs
+
+enum-known-c : tie.Need-enum-known-c
+enum-known-c c = search needs
+
+enum-told : tie.Need-enum-told
+enum-told c = search needs
+
+enum-told-2 : tie.Need-enum-told-2
+enum-told-2 c = search needs
+
+search-clamped-requires : tie.Need-search-clamped-requires
+search-clamped-requires c κs = search needs
 
 returns-4 : tie.Need-returns-4
-returns-4 c = search needs
+returns-4 c =
+    let z = c .before .before .before .before .before .before .before .before .before .before in
+    let F = z .args .format in
+    let t : TrialOf F (z .args .a) (z .args .b) (z .args .x .low) (Fits (c .before .c .given .0 .0)) = rw (c .before .c .given .1) at (c .before .before .before .try-ends .ensures) in
+    partner-leading (F .fraction) (F .exponent) (z .pre .0 .some) (span (z .args .x)) (span (z .args .a)) (span (z .args .b)) (z .args .x .low) (λ y w. w .solution .x-in .low) (record { low = le-refl _; high = omega arith }) _ t
+
+returns-5 : tie.Need-returns-5
+returns-5 c =
+    let z = c .before .before .before .before .before .before .before .before .before in
+    let F = z .args .format in
+    let t : TrialOf F (z .args .a) (z .args .b) (z .args .x .low) Above = rw (c .enum-told .given .1) at (c .before .before .try-ends .ensures) in
+    past-never (F .fraction) (F .exponent) (z .pre .0 .some) (span (z .args .x)) (span (z .args .a)) (span (z .args .b)) (z .args .x .low) (λ y w. w .solution .x-in .low) t
+
+returns-6 : tie.Need-returns-6
+returns-6 c = search needs
 
 pub least-x-spec : {M : Type 1} → statement M
 least-x-spec =
     tie.close
     (tie.spec
     returns
-    sub-granularity
-    sub-granularity-2
-    granularity-requires
-    raise-requires
-    raise-requires-2
-    search-x-requires
     returns-2
-    sub-granularity-3
-    granularity-requires-2
-    lower-requires
-    lower-requires-2
-    search-x-requires-2
     returns-3
-    search-x-requires-3
-    returns-4)
+    try-ends-requires
+    enum-known-c
+    enum-told
+    enum-told-2
+    search-clamped-requires
+    returns-4
+    returns-5
+    returns-6)
