@@ -14,6 +14,8 @@ use Rattle.arith.specs.declared.solve.Turn.{Turn}
 use Rattle.arith.specs.declared.solve.Turn.the-variants.{Solved, Ended, Next}
 use Rattle.arith.specs.declared.solve.Pair.{Pair}
 use Rattle.arith.specs.declared.solve.Pair.the-variants as Pair
+use Rattle.arith.specs.declared.extent.Outermost.{Outermost}
+use Rattle.arith.specs.declared.extent.Outermost.the-variants as Outermost
 use Rattle.arith.specs.declared.extent.Extent.{Extent}
 use Rattle.arith.specs.declared.extent.Extent.the-variants.{Empty, Over}
 use Rattle.arith.specs.declared.narrow.Ranges.{Ranges}
@@ -29,6 +31,10 @@ span R = record { low = R .low; high = R .high }
 abbrev pub LeastOf : (ℕ → Type 0) → Found → Type 0
 LeastOf P (Found.At y) = S.Least P y
 LeastOf P Found.Absent = S.Never P
+
+-- from the least to the greatest
+abbrev pub Spans : (ℕ → Type 0) → Range → Type 0
+Spans P R = N.Spans P (span R)
 
 -- from the least to the greatest, or that there is none
 abbrev pub ExtentOf : (ℕ → Type 0) → Extent → Type 0
@@ -69,6 +75,11 @@ TurnOf F X A B x (Next y) = (x < y) × Frontier F X A B y
 abbrev pub LeadingOf : Format → Range → Range → Range → Pair → Type 0
 LeadingOf F X A B (Pair.At x a) = S.Leading (F .fraction) (F .exponent) (span X) (span A) (span B) x a
 LeadingOf F X A B Pair.Absent = S.Never (HasX F X A B)
+
+-- from the least x to the greatest, each with its a, or that there is no triple
+abbrev pub OutermostOf : Format → Range → Range → Range → Outermost → Type 0
+OutermostOf F X A B (Outermost.At R p q) = S.Outermost (F .fraction) (F .exponent) (span X) (span A) (span B) (span R) p q
+OutermostOf F X A B Outermost.Absent = S.Never (HasX F X A B)
 
 -- ---- the narrowing of ranges
 -- the code's answer as ladder's

@@ -1,8 +1,8 @@
-// From the least to the greatest x, and b, in a triple. The greatest is the mirror image of the least of the mirrored ranges.
+// From the least to the greatest x, a and b in a triple. The greatest is the mirror image of the least of the mirrored ranges.
 ghost use Prim.Native.Nat.{_≤_, _<_};
 ghost use Rattle.arith.specs.Formats.{Sound};
 ghost use Rattle.arith.specs.Intervals.{Ends};
-ghost use Rattle.arith.specs.Searches.{LeastOf, ExtentOf, HasX, HasB};
+ghost use Rattle.arith.specs.Searches.{LeastOf, Spans, ExtentOf, OutermostOf, HasX, HasB};
 use crate::format::Format;
 use crate::hardware::add_ordinals;
 use crate::operand::Found;
@@ -18,26 +18,77 @@ pub(crate) enum Extent {
     Over(Range),
 }
 
+// From the least to the greatest x in a triple, with an a that goes with each, or that there is no triple.
+pub(crate) enum Outermost {
+    At {
+        x: Range,
+        with_low: u64,
+        with_high: u64,
+    },
+    Absent,
+}
+
 // The x in a triple.
-pub(crate) fn extent_x(format: Format, x: Range, a: Range, b: Range) -> Extent
+pub(crate) fn extent_x(format: Format, x: Range, a: Range, b: Range) -> Outermost
     requires { ⌜ (Sound format) × (Ends format x) × (Ends format a) × (Ends format b) ⌝ }
-    ensures { λ r. ⌜ ExtentOf (HasX format x a b) r ⌝ }
+    ensures { λ r. ⌜ OutermostOf format x a b r ⌝ }
 {
-    let Pair::At { x: low, a: _ } = least_x(format, x, a, b) else {
-        return Extent::Empty;
+    let Pair::At {
+        x: low,
+        a: with_low,
+    } = least_x(format, x, a, b)
+    else {
+        return Outermost::Absent;
     };
-    let Pair::At { x: m, a: _ } = least_x(
+    let Pair::At { x: m, a: c } = least_x(
         format,
         reflect(format, x),
         reflect(format, a),
         reflect(format, b),
     ) else {
-        return Extent::Empty;
+        return Outermost::Absent;
     };
-    Extent::Over(Range {
+    Outermost::At {
+        x: Range {
+            low,
+            high: mirror_of(format, m),
+        },
+        with_low,
+        with_high: mirror_of(format, c),
+    }
+}
+
+// The least a in a triple, where one that stands in a triple is known: a's low end, or found as x is, with the operands swapped.
+fn least_a(format: Format, x: Range, a: Range, b: Range, known: u64) -> u64
+    requires { ⌜ (Sound format) × (Ends format x) × (Ends format a) × (Ends format b) × (HasX format a x b known) ⌝ }
+    ensures { λ r. ⌜ LeastOf (HasX format a x b) (Found.At r) ⌝ }
+{
+    if known <= a.low {
+        return known;
+    }
+    match least_x(format, a, x, b) {
+        Pair::At { x: c, a: _ } => c,
+        Pair::Absent => known,
+    }
+}
+
+// The a in a triple, where p and q stand in one: q may be the least, and p the greatest.
+pub(crate) fn extent_a(format: Format, x: Range, a: Range, b: Range, p: u64, q: u64) -> Range
+    requires { ⌜ (Sound format) × (Ends format x) × (Ends format a) × (Ends format b) × (HasX format a x b p) × (HasX format a x b q) ⌝ }
+    ensures { λ r. ⌜ Spans (HasX format a x b) r ⌝ }
+{
+    let low = least_a(format, x, a, b, q);
+    let m = least_a(
+        format,
+        reflect(format, x),
+        reflect(format, a),
+        reflect(format, b),
+        mirror_of(format, p),
+    );
+    Range {
         low,
         high: mirror_of(format, m),
-    })
+    }
 }
 
 // The least b in a triple by search: the sum of the least x with its a bounds it from above; what is below is asked again.

@@ -7,6 +7,8 @@ ghost use Rattle.arith.specs.Narrows.{narrowAnswer, narrowOrdered, narro
 ghost use Rattle.arith.specs.Answers.{narrowedTold};
 ghost use Rattle.arith.specs.Replies.{replyAfter, narrowTests, narrowValues};
 use crate::extent::Extent;
+use crate::extent::Outermost;
+use crate::extent::extent_a;
 use crate::extent::extent_b;
 use crate::extent::extent_x;
 use crate::format::Format;
@@ -37,17 +39,20 @@ pub(crate) enum Ranges {
     Ends { x: Range, a: Range, b: Range },
 }
 
-// The narrowing of ranges. a is x with the operands swapped; the sums of what is narrowed are those of what was given.
+// The narrowing of ranges. The a that go with x's ends may be a's ends; the sums of what is narrowed are those of what was given.
 fn narrow_ranges(format: Format, x: Range, a: Range, b: Range) -> Ranges
     requires { ⌜ (Sound format) × (Ends format x) × (Ends format a) × (Ends format b) ⌝ }
     ensures { λ r. ⌜ narrowingIn r ≡ narrowing format x a b ⌝ }
 {
-    let Extent::Over(xs) = extent_x(format, x, a, b) else {
+    let Outermost::At {
+        x: xs,
+        with_low: p,
+        with_high: q,
+    } = extent_x(format, x, a, b)
+    else {
         return Ranges::None;
     };
-    let Extent::Over(ys) = extent_x(format, a, x, b) else {
-        return Ranges::None;
-    };
+    let ys = extent_a(format, x, a, b, p, q);
     let Extent::Over(bs) = extent_b(format, xs, ys, b) else {
         return Ranges::None;
     };

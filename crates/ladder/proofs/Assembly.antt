@@ -5,15 +5,12 @@ use Rattle.ladder.specs.Solution.{Interval}
 use Rattle.ladder.specs.Narrowing.{none, ends, narrowing, HasX, HasA, HasB, Spans}
 use Rattle.ladder.specs.Search.{Never}
 use Rattle.ladder.proofs.Narrowing.{narrowing-unique}
-use Rattle.ladder.proofs.Solutions.{Kept, kept-b, swap-a, swap-spans}
+use Rattle.ladder.proofs.Solutions.{Kept, kept-b, swap-spans}
 use Rattle.ladder.proofs.Hull.{Within, in-within, spans-within}
 
 module _ (f e : ℕ) (X A B : Interval) where
   pub never-x : Never (HasX f e X A B) → none ≡ narrowing f e X A B
   never-x n = narrowing-unique f e X A B none (λ x a b s. n x (record { a = a; b = b; solution = s }))
-
-  pub never-a : Never (HasX f e A X B) → none ≡ narrowing f e X A B
-  never-a n = narrowing-unique f e X A B none (λ x a b s. n a (swap-a f e X A B a (record { x = x; b = b; solution = s })))
 
   pub x-within : (X' : Interval) → Spans (HasX f e X A B) X' → Within X X'
   x-within X' = spans-within (HasX f e X A B) X X' (λ y w. w .solution .x-in)

@@ -24,4 +24,5 @@ pub mod Frontier
 pub mod Granularity
 pub mod Clamp
 pub mod LeastSum
+pub mod Partners
 pub mod Assembly

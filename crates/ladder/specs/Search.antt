@@ -6,7 +6,7 @@ use Rattle.ladder.specs.Magnitude.{magnitude}
 use Rattle.ladder.specs.Ordinal.{sign, mirrored, Finite, above, below}
 use Rattle.ladder.specs.Sum.{sum}
 use Rattle.ladder.specs.Solution.{Interval, In, Solution}
-use Rattle.ladder.specs.Narrowing.{HasX}
+use Rattle.ladder.specs.Narrowing.{HasX, Spans}
 
 -- ---- the numbers with a property
 -- there are none
@@ -61,6 +61,12 @@ pub record Frontier (f e : ℕ) (X A B : Interval) (x : ℕ) : Type 0 where
 pub record Leading (f e : ℕ) (X A B : Interval) (x a : ℕ) : Type 0 where
   pub solution : Solution f e X A B x a (sum f e x a)
   pub least : (y : ℕ) → HasX f e X A B y → x ≤ y
+
+-- R runs from the least x to the greatest, and they go with p and q
+pub record Outermost (f e : ℕ) (X A B R : Interval) (p q : ℕ) : Type 0 where
+  pub spans : Spans (HasX f e X A B) R
+  pub low : Partner f e A B (R .low) p
+  pub high : Partner f e A B (R .high) q
 
 -- ---- images of an interval
 -- both ends are finite

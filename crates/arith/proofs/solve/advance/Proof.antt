@@ -1,5 +1,4 @@
 -- `arith::solve::advance` meets its contract: one turn at the frontier. Assumes nothing.
-use native.Mathlib.Omega.{arith}
 use borrow.Author.Needs.{needs}
 use Rattle.ladder.proofs.Frontier.{partner-leading, past-never}
 use Rattle.arith.specs.declared.solve.Trial.the-variants.{Fits, Above, Below}
