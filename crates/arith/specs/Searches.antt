@@ -16,8 +16,6 @@ use Rattle.arith.specs.declared.solve.Pair.{Pair}
 use Rattle.arith.specs.declared.solve.Pair.the-variants as Pair
 use Rattle.arith.specs.declared.extent.Outermost.{Outermost}
 use Rattle.arith.specs.declared.extent.Outermost.the-variants as Outermost
-use Rattle.arith.specs.declared.extent.Extent.{Extent}
-use Rattle.arith.specs.declared.extent.Extent.the-variants.{Empty, Over}
 use Rattle.arith.specs.declared.narrow.Ranges.{Ranges}
 use Rattle.arith.specs.declared.narrow.Ranges.the-variants as Ranges
 use Rattle.arith.specs.Formats.{sum}
@@ -35,11 +33,6 @@ LeastOf P Found.Absent = S.Never P
 -- from the least to the greatest
 abbrev pub Spans : (ℕ → Type 0) → Range → Type 0
 Spans P R = N.Spans P (span R)
-
--- from the least to the greatest, or that there is none
-abbrev pub ExtentOf : (ℕ → Type 0) → Extent → Type 0
-ExtentOf P (Over R) = N.Spans P (span R)
-ExtentOf P Empty = S.Never P
 
 -- ---- the properties, at a format and over ranges
 -- y inside R has a sum with a of at least b

@@ -1,22 +1,17 @@
 // From the least to the greatest x, a and b in a triple. The greatest is the mirror image of the least of the mirrored ranges.
-ghost use Prim.Native.Nat.{_≤_, _<_};
 ghost use Rattle.arith.specs.Formats.{Sound};
 ghost use Rattle.arith.specs.Intervals.{Ends};
-ghost use Rattle.arith.specs.Searches.{LeastOf, Spans, ExtentOf, OutermostOf, HasX, HasB};
+ghost use Rattle.arith.specs.Searches.{LeastOf, Spans, OutermostOf, HasX, HasB};
 use crate::format::Format;
 use crate::hardware::add_ordinals;
 use crate::operand::Found;
 use crate::range::Range;
+use crate::range::greater;
+use crate::range::less;
 use crate::range::mirror_of;
 use crate::range::reflect;
 use crate::solve::Pair;
 use crate::solve::least_x;
-
-// From the least to the greatest of some numbers, or that there are none.
-pub(crate) enum Extent {
-    Empty,
-    Over(Range),
-}
 
 // From the least to the greatest x in a triple, with an a that goes with each, or that there is no triple.
 pub(crate) enum Outermost {
@@ -72,7 +67,7 @@ fn least_a(format: Format, x: Range, a: Range, b: Range, known: u64) -> u64
     }
 }
 
-// The a in a triple, where p and q stand in one: q may be the least, and p the greatest.
+// The a in a triple, where p and q stand in one: p with x's low end, so it may be the greatest, and q with x's high end, so it may be the least.
 pub(crate) fn extent_a(format: Format, x: Range, a: Range, b: Range, p: u64, q: u64) -> Range
     requires { ⌜ (Sound format) × (Ends format x) × (Ends format a) × (Ends format b) × (HasX format a x b p) × (HasX format a x b q) ⌝ }
     ensures { λ r. ⌜ Spans (HasX format a x b) r ⌝ }
@@ -91,16 +86,13 @@ pub(crate) fn extent_a(format: Format, x: Range, a: Range, b: Range, p: u64, q: 
     }
 }
 
-// The least b in a triple by search: the sum of the least x with its a bounds it from above; what is below is asked again.
-fn search_b(format: Format, x: Range, a: Range, b: Range) -> Found
-    requires { ⌜ (Sound format) × (Ends format x) × (Ends format a) × (Ends format b) ⌝ }
-    ensures { λ r. ⌜ LeastOf (HasB format x a b) r ⌝ }
+// The least b in a triple by search, where b's high end stands in one: what is below is asked for, first all of it, until nothing is.
+fn search_b(format: Format, x: Range, a: Range, b: Range) -> u64
+    requires { ⌜ (Sound format) × (Ends format x) × (Ends format a) × (Ends format b) × (HasB format x a b (b .high)) ⌝ }
+    ensures { λ r. ⌜ LeastOf (HasB format x a b) (Found.At r) ⌝ }
 {
-    let Pair::At { x: p, a: q } = least_x(format, x, a, b) else {
-        return Found::Absent;
-    };
     let mut low = b.low;
-    let mut high = add_ordinals(format, p, q);
+    let mut high = b.high;
     let mut near = true;
     while low < high {
         let middle = if near {
@@ -114,60 +106,40 @@ fn search_b(format: Format, x: Range, a: Range, b: Range) -> Found
             Pair::Absent => low = middle + 1,
         }
     }
-    Found::At(high)
+    high
 }
 
-// The least b in a triple: b's low end, if it stands in one.
-fn seek_b(format: Format, x: Range, a: Range, b: Range) -> Found
-    requires { ⌜ (Sound format) × (Ends format x) × (Ends format a) × (Ends format b) ⌝ }
-    ensures { λ r. ⌜ LeastOf (HasB format x a b) r ⌝ }
-{
-    if b.high < b.low {
-        return Found::Absent;
-    }
-    let lowest = Range {
-        low: b.low,
-        high: b.low,
-    };
-    match least_x(format, x, a, lowest) {
-        Pair::At { x: _, a: _ } => Found::At(b.low),
-        Pair::Absent => search_b(format, x, a, b),
-    }
-}
-
-// The least b in a triple: the sum of the low ends where b's low end is no higher.
-fn least_b(format: Format, x: Range, a: Range, b: Range) -> Found
-    requires { ⌜ (Sound format) × (Ends format x) × (Ends format a) × (Ends format b) × (x .low ≤ x .high) × (a .low ≤ a .high) ⌝ }
-    ensures { λ r. ⌜ LeastOf (HasB format x a b) r ⌝ }
+// The least b in a triple, where one that stands in a triple is known: the sum of the low ends, unless that is below b.
+fn least_b(format: Format, x: Range, a: Range, b: Range, known: u64) -> u64
+    requires { ⌜ (Sound format) × (Ends format x) × (Ends format a) × (Ends format b) × (HasB format x a b known) ⌝ }
+    ensures { λ r. ⌜ LeastOf (HasB format x a b) (Found.At r) ⌝ }
 {
     let least = add_ordinals(format, x.low, a.low);
-    if least < b.low {
-        return seek_b(format, x, a, b);
+    if b.low <= least {
+        return least;
     }
-    if b.high < least {
-        return Found::Absent;
-    }
-    Found::At(least)
+    let capped = Range {
+        low: b.low,
+        high: known,
+    };
+    search_b(format, x, a, capped)
 }
 
-// The b in a triple.
-pub(crate) fn extent_b(format: Format, x: Range, a: Range, b: Range) -> Extent
-    requires { ⌜ (Sound format) × (Ends format x) × (Ends format a) × (Ends format b) × (x .low ≤ x .high) × (a .low ≤ a .high) ⌝ }
-    ensures { λ r. ⌜ ExtentOf (HasB format x a b) r ⌝ }
+// The b in a triple, where s and t stand in one: the search for either end starts at the nearer of them.
+pub(crate) fn extent_b(format: Format, x: Range, a: Range, b: Range, s: u64, t: u64) -> Range
+    requires { ⌜ (Sound format) × (Ends format x) × (Ends format a) × (Ends format b) × (HasB format x a b s) × (HasB format x a b t) ⌝ }
+    ensures { λ r. ⌜ Spans (HasB format x a b) r ⌝ }
 {
-    let Found::At(low) = least_b(format, x, a, b) else {
-        return Extent::Empty;
-    };
-    let Found::At(m) = least_b(
+    let low = least_b(format, x, a, b, less(s, t));
+    let m = least_b(
         format,
         reflect(format, x),
         reflect(format, a),
         reflect(format, b),
-    ) else {
-        return Extent::Empty;
-    };
-    Extent::Over(Range {
+        mirror_of(format, greater(s, t)),
+    );
+    Range {
         low,
         high: mirror_of(format, m),
-    })
+    }
 }

@@ -6,7 +6,6 @@ ghost use Rattle.arith.specs.Searches.{narrowingIn, narrowing};
 ghost use Rattle.arith.specs.Narrows.{narrowAnswer, narrowOrdered, narrowIn, narrowOf};
 ghost use Rattle.arith.specs.Answers.{narrowedTold};
 ghost use Rattle.arith.specs.Replies.{replyAfter, narrowTests, narrowValues};
-use crate::extent::Extent;
 use crate::extent::Outermost;
 use crate::extent::extent_a;
 use crate::extent::extent_b;
@@ -14,6 +13,7 @@ use crate::extent::extent_x;
 use crate::format::Format;
 use crate::format::format_of;
 use crate::format::known;
+use crate::hardware::add_ordinals;
 use crate::interval::Interval;
 use crate::interval::ends_finite;
 use crate::interval::interval_of;
@@ -39,7 +39,7 @@ pub(crate) enum Ranges {
     Ends { x: Range, a: Range, b: Range },
 }
 
-// The narrowing of ranges. The a that go with x's ends may be a's ends; the sums of what is narrowed are those of what was given.
+// The narrowing of ranges. The a that go with x's ends, and their sums, are where the search for the ends of a and of b starts; b's is over what x and a are narrowed to.
 fn narrow_ranges(format: Format, x: Range, a: Range, b: Range) -> Ranges
     requires { ⌜ (Sound format) × (Ends format x) × (Ends format a) × (Ends format b) ⌝ }
     ensures { λ r. ⌜ narrowingIn r ≡ narrowing format x a b ⌝ }
@@ -53,9 +53,9 @@ fn narrow_ranges(format: Format, x: Range, a: Range, b: Range) -> Ranges
         return Ranges::None;
     };
     let ys = extent_a(format, x, a, b, p, q);
-    let Extent::Over(bs) = extent_b(format, xs, ys, b) else {
-        return Ranges::None;
-    };
+    let s = add_ordinals(format, xs.low, p);
+    let t = add_ordinals(format, xs.high, q);
+    let bs = extent_b(format, xs, ys, b, s, t);
     Ranges::Ends {
         x: xs,
         a: ys,

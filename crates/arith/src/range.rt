@@ -17,13 +17,15 @@ pub(crate) fn ordered(r: Range) -> bool
     r.low <= r.high
 }
 
-fn greater(x: u64, y: u64) -> u64
+// The greater of two.
+pub(crate) fn greater(x: u64, y: u64) -> u64
     ensures { λ r. ⌜ r ≡ max x y ⌝ }
 {
     if x < y { y } else { x }
 }
 
-fn less(x: u64, y: u64) -> u64
+// The lesser of two.
+pub(crate) fn less(x: u64, y: u64) -> u64
     ensures { λ r. ⌜ r ≡ min x y ⌝ }
 {
     if x < y { x } else { y }

@@ -1,6 +1,7 @@
 -- The least and the greatest number with a property: closed in on from both sides, read off in a mirror, and together the ends of an interval. Assumes nothing.
+use mathlib.Core.Path.{_≡_, subst}
 use mathlib.Core.Logic.{inl, inr}
-use Prim.Native.Nat.{ℕ, _+_, _-_, _≤_}
+use Prim.Native.Nat.{ℕ, _+_, _-_, _≤_, min, max}
 use native.Mathlib.Nat.{le-trans}
 use native.Mathlib.Omega.{arith}
 use Rattle.ladder.specs.Solution.{Interval}
@@ -13,6 +14,19 @@ spans-of p q = record { low = p .holds; high = q .holds; all = λ y r. record { 
 
 pub spans-order : {P : ℕ → Type 0} {I : Interval} → Spans P I → I .low ≤ I .high
 spans-order {P} {I} s = s .all (I .low) (s .low) .high
+
+-- of two numbers with the property, the lesser and the greater
+pub min-holds : (P : ℕ → Type 0) (s t : ℕ) → P s → P t → P (min s t)
+min-holds P s t p q = elim (le-or-lt s t) [
+  | inl h ↦ let e : s ≡ min s t = omega arith in subst P e p
+  | inr h ↦ let e : t ≡ min s t = omega arith in subst P e q
+]
+
+pub max-holds : (P : ℕ → Type 0) (s t : ℕ) → P s → P t → P (max s t)
+max-holds P s t p q = elim (le-or-lt s t) [
+  | inl h ↦ let e : t ≡ max s t = omega arith in subst P e q
+  | inr h ↦ let e : s ≡ max s t = omega arith in subst P e p
+]
 
 -- ---- closing in
 pub bracket-order : {P : ℕ → Type 0} {l h : ℕ} → Bracket P l h → l ≤ h

@@ -110,8 +110,5 @@ module _ (f e : ℕ) (some : 1 ≤ f) (X A B : Interval) (nx : Bounded f e X) (n
   pub mirror-x-greatest : (y : ℕ) → Least (HasX f e X' A' B') y → Greatest (HasX f e X A B) (mirrored f e y)
   mirror-x-greatest = mirror-greatest (2 * sign f e) (HasX f e X A B) (HasX f e X' A' B') mirror-x mirrored-x (λ z w. finite-twice f e z (finite-in f e X nx z (w .solution .x-in)))
 
-  pub mirror-b-never : Never (HasB f e X' A' B') → Never (HasB f e X A B)
-  mirror-b-never = mirror-never (2 * sign f e) (HasB f e X A B) (HasB f e X' A' B') mirror-b
-
   pub mirror-b-greatest : (y : ℕ) → Least (HasB f e X' A' B') y → Greatest (HasB f e X A B) (mirrored f e y)
   mirror-b-greatest = mirror-greatest (2 * sign f e) (HasB f e X A B) (HasB f e X' A' B') mirror-b mirrored-b (λ z w. finite-twice f e z (finite-in f e B nb z (w .solution .b-in)))

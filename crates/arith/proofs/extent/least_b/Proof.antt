@@ -1,33 +1,34 @@
 -- `arith::extent::least_b` meets its contract: no sum is smaller than that of the low ends. Assumes nothing.
 use native.Mathlib.Omega.{arith}
 use borrow.Author.Needs.{needs}
-use Rattle.ladder.proofs.LeastSum.{corner-least, corner-never}
+use Rattle.ladder.proofs.Solutions.{finite-in}
+use Rattle.ladder.proofs.LeastSum.{corner-least, capped-holds, capped-least}
 use Rattle.arith.specs.Searches.{span}
+use Rattle.arith.proofs.Bounds.{bounded}
 use Rattle.arith.proofs.extent.least_b.Statement.{statement}
 use Rattle.arith.proofs.extent.least_b.Tie as tie
 
 add-ordinals-requires : tie.Need-add-ordinals-requires
 add-ordinals-requires c κs = search needs
 
-seek-b-requires : tie.Need-seek-b-requires
-seek-b-requires c κs = search needs
-
 returns : tie.Need-returns
-returns c = search needs
+returns c =
+    let z = c .before .before .before in
+    let F = z .args .format in
+    let t = c .before .before .add-ordinals in
+    corner-least (F .fraction) (F .exponent) (z .pre .0 .some) (span (z .args .x)) (span (z .args .a)) (span (z .args .b)) (t .result) (t .ensures) (z .args .known) (z .pre .4) (omega arith)
+
+search-b-requires : tie.Need-search-b-requires
+search-b-requires c κs =
+    let z = c .before .before .before in
+    let F = z .args .format in
+    (z .pre .0, z .pre .1, z .pre .2, record { low = z .pre .3 .low; high = finite-in (F .fraction) (F .exponent) (span (z .args .b)) (bounded (z .pre .3)) _ (z .pre .4 .solution .b-in) }, capped-holds (F .fraction) (F .exponent) (span (z .args .x)) (span (z .args .a)) (span (z .args .b)) _ (z .pre .4))
 
 returns-2 : tie.Need-returns-2
 returns-2 c =
-    let z = c .before .before .before .before .before in
+    let z = c .before .before .before .before in
     let F = z .args .format in
-    let t = c .before .before .before .before .add-ordinals in
-    corner-never (F .fraction) (F .exponent) (z .pre .0 .some) (span (z .args .x)) (span (z .args .a)) (span (z .args .b)) (t .result) (t .ensures) (omega arith)
-
-returns-3 : tie.Need-returns-3
-returns-3 c =
-    let z = c .before .before .before .before .before in
-    let F = z .args .format in
-    let t = c .before .before .before .before .add-ordinals in
-    corner-least (F .fraction) (F .exponent) (z .pre .0 .some) (span (z .args .x)) (span (z .args .a)) (span (z .args .b)) (t .result) (t .ensures) (z .pre .4) (z .pre .5) (omega arith) (omega arith)
+    capped-least (F .fraction) (F .exponent) (span (z .args .x)) (span (z .args .a)) (span (z .args .b)) (z .args .known) _ (z .pre .4 .solution .b-in .high) (c .search-b .ensures)
 
 pub least-b-spec : {M : Type 1} → statement M
-least-b-spec = tie.close (tie.spec add-ordinals-requires seek-b-requires returns returns-2 returns-3)
+least-b-spec = tie.close (tie.spec add-ordinals-requires returns search-b-requires returns-2)

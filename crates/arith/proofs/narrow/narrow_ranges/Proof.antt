@@ -1,16 +1,16 @@
 -- `arith::narrow::narrow_ranges` meets its contract: the narrowing from its three parts. Assumes nothing.
 use borrow.Author.Needs.{needs}
-use Rattle.ladder.proofs.Extremes.{spans-order}
-use Rattle.ladder.proofs.Partners.{low-partner, high-partner}
-use Rattle.ladder.proofs.Assembly.{never-x, never-b, assembled}
-use Rattle.arith.specs.declared.extent.Extent.the-variants.{Empty, Over}
+use Rattle.ladder.proofs.Solutions.{finite-in}
+use Rattle.ladder.proofs.Partners.{low-solution, high-solution, low-partner, high-partner}
+use Rattle.ladder.proofs.Assembly.{never-x, narrowed-b, assembled}
 use Rattle.arith.specs.declared.extent.Outermost.the-variants as Outermost
-use Rattle.arith.specs.Searches.{span, ExtentOf, OutermostOf, HasB}
+use Rattle.arith.specs.Searches.{span, OutermostOf}
+use Rattle.arith.proofs.Bounds.{bounded}
 use Rattle.arith.proofs.Narrowings.{spans-ends}
 use Rattle.arith.proofs.narrow.narrow_ranges.Statement.{statement}
 use Rattle.arith.proofs.narrow.narrow_ranges.Tie as tie
 
--- what was found for x, and for a
+-- what was found for x
 xs-are : (c : tie.After-known-told) → let z = c .before .before .before .before .args in let g = c .before .xs .given in OutermostOf (z .format) (z .x) (z .a) (z .b) (Outermost.At (g .0 .0) (g .0 .1 .0) (g .0 .1 .1 .0))
 xs-are c = rw (c .before .xs .given .1) at (c .before .before .before .extent-x .ensures)
 
@@ -40,35 +40,38 @@ extent-a-requires c κs =
     let B = span (z .args .b) in
     (z .pre .0, z .pre .1, z .pre .2, z .pre .3, low-partner (F .fraction) (F .exponent) X A B _ _ _ o, high-partner (F .fraction) (F .exponent) X A B _ _ _ o)
 
-extent-b-requires : tie.Need-extent-b-requires
-extent-b-requires c κs =
+add-ordinals-requires : tie.Need-add-ordinals-requires
+add-ordinals-requires c κs =
     let z = c .before .before .before .before .before in
     let F = z .args .format in
-    let o = xs-are (c .before) .spans in
-    let s = c .extent-a .ensures in
-    (z .pre .0, spans-ends F (z .args .x) (z .args .a) (z .args .b) _ (z .pre .1) o, spans-ends F (z .args .a) (z .args .x) (z .args .b) _ (z .pre .2) s, z .pre .3, spans-order o, spans-order s)
+    let s = low-solution (F .fraction) (F .exponent) (span (z .args .x)) (span (z .args .a)) (span (z .args .b)) _ _ _ (xs-are (c .before)) in
+    (z .pre .0, finite-in (F .fraction) (F .exponent) (span (z .args .x)) (bounded (z .pre .1)) _ (s .x-in), finite-in (F .fraction) (F .exponent) (span (z .args .a)) (bounded (z .pre .2)) _ (s .a-in))
 
-enum-known-bs : tie.Need-enum-known-bs
-enum-known-bs c = search needs
+add-ordinals-requires-2 : tie.Need-add-ordinals-requires-2
+add-ordinals-requires-2 c κs =
+    let z = c .before .before .before .before .before .before in
+    let F = z .args .format in
+    let s = high-solution (F .fraction) (F .exponent) (span (z .args .x)) (span (z .args .a)) (span (z .args .b)) _ _ _ (xs-are (c .before .before)) in
+    (z .pre .0, finite-in (F .fraction) (F .exponent) (span (z .args .x)) (bounded (z .pre .1)) _ (s .x-in), finite-in (F .fraction) (F .exponent) (span (z .args .a)) (bounded (z .pre .2)) _ (s .a-in))
 
-enum-told-2 : tie.Need-enum-told-2
-enum-told-2 c = search needs
+extent-b-requires : tie.Need-extent-b-requires
+extent-b-requires c κs =
+    let z = c .before .before .before .before .before .before .before in
+    let F = z .args .format in
+    let X = span (z .args .x) in
+    let A = span (z .args .a) in
+    let B = span (z .args .b) in
+    let o = xs-are (c .before .before .before) in
+    let s = c .before .before .extent-a .ensures in
+    let l = narrowed-b (F .fraction) (F .exponent) X A B _ _ (o .spans) s _ _ _ (low-solution (F .fraction) (F .exponent) X A B _ _ _ o) in
+    let h = narrowed-b (F .fraction) (F .exponent) X A B _ _ (o .spans) s _ _ _ (high-solution (F .fraction) (F .exponent) X A B _ _ _ o) in
+    (z .pre .0, spans-ends F (z .args .x) (z .args .a) (z .args .b) _ (z .pre .1) (o .spans), spans-ends F (z .args .a) (z .args .x) (z .args .b) _ (z .pre .2) s, z .pre .3, rw (c .before .add-ordinals .ensures) l, rw (c .add-ordinals2 .ensures) h)
 
 returns-2 : tie.Need-returns-2
 returns-2 c =
     let z = c .before .before .before .before .before .before .before .before in
     let F = z .args .format in
-    let y = c .before .before .before .extent-a in
-    let n : ExtentOf (HasB F (c .before .before .before .before .before .xs .given .0 .0) (y .result) (z .args .b)) Empty = rw (c .enum-told2 .given .1) at (c .before .before .extent-b .ensures) in
-    never-b (F .fraction) (F .exponent) (span (z .args .x)) (span (z .args .a)) (span (z .args .b)) _ _ (xs-are (c .before .before .before .before) .spans) (y .ensures) n
-
-returns-3 : tie.Need-returns-3
-returns-3 c =
-    let z = c .before .before .before .before .before .before .before .before .before in
-    let F = z .args .format in
-    let y = c .before .before .before .before .extent-a in
-    let r : ExtentOf (HasB F (c .before .before .before .before .before .before .xs .given .0 .0) (y .result) (z .args .b)) (Over (c .before .bs .given .0 .0)) = rw (c .before .bs .given .1) at (c .before .before .before .extent-b .ensures) in
-    assembled (F .fraction) (F .exponent) (span (z .args .x)) (span (z .args .a)) (span (z .args .b)) _ _ (xs-are (c .before .before .before .before .before) .spans) (y .ensures) _ r
+    assembled (F .fraction) (F .exponent) (span (z .args .x)) (span (z .args .a)) (span (z .args .b)) _ _ (xs-are (c .before .before .before .before) .spans) (c .before .before .before .extent-a .ensures) _ (c .extent-b .ensures)
 
 pub narrow-ranges-spec : {M : Type 1} → statement M
 narrow-ranges-spec =
@@ -79,8 +82,7 @@ narrow-ranges-spec =
     enum-told
     returns
     extent-a-requires
+    add-ordinals-requires
+    add-ordinals-requires-2
     extent-b-requires
-    enum-known-bs
-    enum-told-2
-    returns-2
-    returns-3)
+    returns-2)
