@@ -89,23 +89,44 @@ pub passes-test : (width limit m n : ℕ) (cells : List Interval) (sums : List R
 passes-test width limit m n cells sums p = sym (test-good-cells width limit m n cells sums (p .head) (p .few-cells) (p .few-sums) (p .cells-good)) ∙ p .sums-good
 
 -- ---- adding
-module _ (old new : Sheet) (tested : Answer) (fault : ℕ) (room : Bool) where
-  pub add-tested : (r : Refusal) → tested ≡ Refused r → _≡_ {A = Kept} (record { sheet = old; answer = Refused r }) (keptBy (addTest tested fault room) old new)
-  add-tested r e = ap (λ (a : Answer). keptBy (addTest a fault room) old new) (sym e)
+module _ (tested : Answer) (fault : ℕ) (room : Bool) where
+  pub add-tested : (r : Refusal) → tested ≡ Refused r → tested ≡ addTest tested fault room
+  add-tested r e = e ∙ ap (λ (a : Answer). addTest a fault room) (sym e)
 
   module _ (e : tested ≡ Done) where
-    pub add-fault : (fault ≡ 0 → ⊥) → _≡_ {A = Kept} (record { sheet = old; answer = refusedAt fault 0 }) (keptBy (addTest tested fault room) old new)
-    add-fault ne = ap (λ (t : Bool). keptBy (andThen (require t fault 0) (require room 10 0)) old new) (sym (ne-eqb fault 0 ne)) ∙ ap (λ (a : Answer). keptBy (addTest a fault room) old new) (sym e)
+    pub add-fault : (fault ≡ 0 → ⊥) → refusedAt fault 0 ≡ addTest tested fault room
+    add-fault ne = ap (λ (t : Bool). andThen (require t fault 0) (require room 10 0)) (sym (ne-eqb fault 0 ne)) ∙ ap (λ (a : Answer). addTest a fault room) (sym e)
 
-    module _ (z : fault ≡ 0) where
-      good : keptBy (require room 10 0) old new ≡ keptBy (addTest tested fault room) old new
-      good = ap (λ (t : Bool). keptBy (andThen (require t fault 0) (require room 10 0)) old new) (sym (eq-eqb fault 0 z)) ∙ ap (λ (a : Answer). keptBy (addTest a fault room) old new) (sym e)
+    pub add-room : fault ≡ 0 → require room 10 0 ≡ addTest tested fault room
+    add-room z = ap (λ (t : Bool). andThen (require t fault 0) (require room 10 0)) (sym (eq-eqb fault 0 z)) ∙ ap (λ (a : Answer). addTest a fault room) (sym e)
 
-      pub add-full : room ≡ false → _≡_ {A = Kept} (record { sheet = old; answer = refusedAt 10 0 }) (keptBy (addTest tested fault room) old new)
-      add-full f = ap (λ (t : Bool). keptBy (require t 10 0) old new) (sym f) ∙ good
+-- what is added was tested, has no fault and finds room
+pub record Admitted (tested : Answer) (fault : ℕ) (room : Bool) : Type 0 where
+  pub tests : tested ≡ Done
+  pub faultless : fault ≡ 0
+  pub roomy : room ≡ true
 
-      pub added : room ≡ true → _≡_ {A = Kept} (record { sheet = new; answer = Done }) (keptBy (addTest tested fault room) old new)
-      added t = ap (λ (u : Bool). keptBy (require u 10 0) old new) (sym t) ∙ good
+pub admitted : (tested : Answer) (fault : ℕ) (room : Bool) → addTest tested fault room ≡ Done → Admitted tested fault room
+admitted (Refused r) fault room h = absurd (let z : _≡_ {A = ℕ} 0 1 = cc in omega arith)
+admitted Done fault room h = go (eqb fault 0) refl room refl h
+  where
+    go : (t : Bool) → eqb fault 0 ≡ t → (u : Bool) → room ≡ u → andThen (require t fault 0) (require u 10 0) ≡ Done → Admitted Done fault room
+    go true p true q k = record { tests = refl; faultless = eqb-true fault 0 p; roomy = q }
+    go true p false q k = absurd (let z : _≡_ {A = ℕ} 0 1 = cc in omega arith)
+    go false p u q k = absurd (let z : _≡_ {A = ℕ} 0 1 = cc in omega arith)
+
+-- the answer of an addition, and the sheet it leaves
+module _ (old new : Sheet) (a b : Answer) (e : a ≡ b) where
+  pub add-kept : (r : Refusal) → a ≡ Refused r → _≡_ {A = Kept} (record { sheet = old; answer = a }) (keptBy b old new)
+  add-kept r q = ap (λ (v : Answer). record { sheet = old; answer = v }) q ∙ ap (λ (v : Answer). keptBy v old new) (sym q ∙ e)
+
+  pub add-new : a ≡ Done → _≡_ {A = Kept} (record { sheet = new; answer = a }) (keptBy b old new)
+  add-new q = ap (λ (v : Answer). record { sheet = new; answer = v }) q ∙ ap (λ (v : Answer). keptBy v old new) (sym q ∙ e)
+
+pub added :
+    (old new : Sheet) (tested : Answer) (fault : ℕ) (room : Bool) → tested ≡ Done → fault ≡ 0 → room ≡ true →
+    _≡_ {A = Kept} (record { sheet = new; answer = Done }) (keptBy (addTest tested fault room) old new)
+added old new tested fault room e z t = ap (λ (u : Bool). keptBy (require u 10 0) old new) (sym t) ∙ ap (λ (a : Answer). keptBy a old new) (add-room tested fault room e z)
 
 -- a refusal hands the sheet back as it came
 pub refused-kept : (old new : Sheet) (a : Answer) → (answerNumber (keptBy a old new .answer) ≡ 0 → ⊥) → keptBy a old new .sheet ≡ old

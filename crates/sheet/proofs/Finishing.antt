@@ -10,7 +10,7 @@ use Rattle.sheet.specs.declared.kept.Sheet.{Sheet}
 use Rattle.sheet.specs.declared.kept.Answer.{Answer}
 use Rattle.sheet.specs.declared.kept.Answer.the-variants as Answer
 use Rattle.sheet.specs.declared.passes.Outcome.{Outcome}
-use Rattle.sheet.specs.declared.passes.Outcome.the-variants.{Settled, NoTriple, Stopped, Refused}
+use Rattle.sheet.specs.declared.passes.Outcome.the-variants.{NoTriple, Refused}
 use Rattle.sheet.specs.declared.passes.Halted.{Halted}
 use Rattle.sheet.specs.declared.narrowing.Run.{Run}
 use Rattle.sheet.specs.Cells.{fractionOf, exponentOf, boxOf}
@@ -30,29 +30,15 @@ module _ (s t : Sheet) (h : Halted) (q : t ≡ tidied s) where
   unfolding tidied
   kept box c = ap₂ withCells q (c ∙ ap (λ (u : Sheet). places (u .width) (u .«cell_count») box) q)
 
-  pub finish-settled : (e : Ended) → EndsAs t h e → (p : ℕ) → h .outcome ≡ Settled p → _≡_ {A = Run} (record { sheet = withCells t (h .cells); outcome = Settled p }) (ranOn s e)
-  finish-settled (settled n box) m p o =
-      let z : p ≡ n = let y = m .0 in cc in
-      ap₂ (λ (u : Sheet) (k : ℕ). record { sheet = u; outcome = Settled k }) (kept box (m .1)) z
-  finish-settled (stopped n box) m p o = absurd (let y = m .0 in let z : _≡_ {A = ℕ} 0 1 = cc in omega arith)
-  finish-settled (noTriple n k) m p o = absurd (let z : _≡_ {A = ℕ} 0 1 = cc in omega arith)
-
-  pub finish-stopped : (e : Ended) → EndsAs t h e → (p : ℕ) → h .outcome ≡ Stopped p → _≡_ {A = Run} (record { sheet = withCells t (h .cells); outcome = Stopped p }) (ranOn s e)
-  finish-stopped (stopped n box) m p o =
-      let z : p ≡ n = let y = m .0 in cc in
-      ap₂ (λ (u : Sheet) (k : ℕ). record { sheet = u; outcome = Stopped k }) (kept box (m .1)) z
-  finish-stopped (settled n box) m p o = absurd (let y = m .0 in let z : _≡_ {A = ℕ} 0 1 = cc in omega arith)
-  finish-stopped (noTriple n k) m p o = absurd (let z : _≡_ {A = ℕ} 0 1 = cc in omega arith)
-
-  pub finish-none : (e : Ended) → EndsAs t h e → (p k : ℕ) → h .outcome ≡ NoTriple p k → _≡_ {A = Run} (record { sheet = s; outcome = NoTriple p k }) (ranOn s e)
-  finish-none (noTriple n j) m p k o = ap (λ (v : Outcome). record { sheet = s; outcome = v }) (sym o ∙ m)
+  pub finish-none : (e : Ended) → EndsAs t h e → (p k : ℕ) → h .outcome ≡ NoTriple p k → _≡_ {A = Run} (record { sheet = s; outcome = h .outcome }) (ranOn s e)
+  finish-none (noTriple n j) m p k o = ap (λ (v : Outcome). record { sheet = s; outcome = v }) m
   finish-none (settled n box) m p k o = absurd (let y = m .0 in let z : _≡_ {A = ℕ} 0 1 = cc in omega arith)
   finish-none (stopped n box) m p k o = absurd (let y = m .0 in let z : _≡_ {A = ℕ} 0 1 = cc in omega arith)
 
-  pub finish-never : (e : Ended) → EndsAs t h e → (r : Refusal) → h .outcome ≡ Refused r → ⊥
-  finish-never (settled n box) m r o = let y = m .0 in let z : _≡_ {A = ℕ} 0 1 = cc in omega arith
-  finish-never (stopped n box) m r o = let y = m .0 in let z : _≡_ {A = ℕ} 0 1 = cc in omega arith
-  finish-never (noTriple n k) m r o = let z : _≡_ {A = ℕ} 0 1 = cc in omega arith
+  pub finish-box : (e : Ended) → EndsAs t h e → ((p k : ℕ) → h .outcome ≡ NoTriple p k → ⊥) → _≡_ {A = Run} (record { sheet = withCells t (h .cells); outcome = h .outcome }) (ranOn s e)
+  finish-box (settled n box) m o = ap₂ (λ (u : Sheet) (v : Outcome). record { sheet = u; outcome = v }) (kept box (m .1)) (m .0)
+  finish-box (stopped n box) m o = ap₂ (λ (u : Sheet) (v : Outcome). record { sheet = u; outcome = v }) (kept box (m .1)) (m .0)
+  finish-box (noTriple n k) m o = absurd (o n k m)
 
 -- ---- the promise
 -- a refused sheet

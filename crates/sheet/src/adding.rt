@@ -1,6 +1,6 @@
 // Adding a cell or a sum to a kept sheet.
 ghost use mathlib.Core.Path.{_≡_};
-ghost use Rattle.sheet.specs.Sheets.{addCellOf, addSumOf};
+ghost use Rattle.sheet.specs.Sheets.{addTest, addCellOf, addSumOf};
 use crate::fault::cell_fault;
 use crate::fault::sum_fault;
 use crate::kept::Answer;
@@ -13,37 +13,38 @@ use crate::tidying::tidy;
 use crate::tidying::write_cell;
 use arith::interval::Interval;
 
+// The answer to adding: the refusal of the sheet's test, then that of the fault, then 10 where there is no room.
+fn test_addition(tested: Answer, fault: u64, room: bool) -> Answer
+    ensures { λ r. ⌜ r ≡ addTest tested fault room ⌝ }
+{
+    if let Answer::Refused(_) = tested {
+        return tested;
+    }
+    if fault != 0 {
+        return refuse_at(fault, 0);
+    }
+    if room {
+        return Answer::Done;
+    }
+    refuse_at(10, 0)
+}
+
 // Adds a cell; refusals of the sheet, then 2, 3, 10.
 pub fn add_cell(sheet: Sheet, cell: Interval) -> Kept
     ensures { λ r. ⌜ r ≡ addCellOf sheet cell ⌝ }
 {
-    let tested = test_sheet(sheet);
-    if let Answer::Refused(r) = tested {
-        return Kept {
-            sheet,
-            answer: Answer::Refused(r),
-        };
-    }
-    let fault = cell_fault(sheet.width, cell);
-    if fault != 0 {
-        return Kept {
-            sheet,
-            answer: refuse_at(fault, 0),
-        };
-    }
     let count = sheet.cell_count;
-    if 64 <= count {
-        return Kept {
-            sheet,
-            answer: refuse_at(10, 0),
-        };
+    let fault = cell_fault(sheet.width, cell);
+    let answer = test_addition(test_sheet(sheet), fault, count < 64);
+    if let Answer::Refused(_) = answer {
+        return Kept { sheet, answer };
     }
     let mut next = tidy(sheet);
     next.cells[count as usize] = write_cell(sheet.width, cell);
     next.cell_count = count + 1;
     Kept {
         sheet: next,
-        answer: Answer::Done,
+        answer,
     }
 }
 
@@ -51,32 +52,17 @@ pub fn add_cell(sheet: Sheet, cell: Interval) -> Kept
 pub fn add_sum(sheet: Sheet, sum: Record) -> Kept
     ensures { λ r. ⌜ r ≡ addSumOf sheet sum ⌝ }
 {
-    let tested = test_sheet(sheet);
-    if let Answer::Refused(r) = tested {
-        return Kept {
-            sheet,
-            answer: Answer::Refused(r),
-        };
-    }
-    let fault = sum_fault(sheet.cell_count, sum);
-    if fault != 0 {
-        return Kept {
-            sheet,
-            answer: refuse_at(fault, 0),
-        };
-    }
     let count = sheet.sum_count;
-    if 128 <= count {
-        return Kept {
-            sheet,
-            answer: refuse_at(10, 0),
-        };
+    let fault = sum_fault(sheet.cell_count, sum);
+    let answer = test_addition(test_sheet(sheet), fault, count < 128);
+    if let Answer::Refused(_) = answer {
+        return Kept { sheet, answer };
     }
     let mut next = tidy(sheet);
     next.sums[count as usize] = sum;
     next.sum_count = count + 1;
     Kept {
         sheet: next,
-        answer: Answer::Done,
+        answer,
     }
 }

@@ -33,23 +33,12 @@ fn finish(sheet: Sheet, tidy: Sheet, halted: Halted) -> Run
     ensures { λ r. ⌜ r ≡ ranOn sheet (endOf tidy) ⌝ }
 {
     let outcome = halted.outcome;
-    match outcome {
-        Outcome::Settled { passes } => Run {
-            sheet: with_cells(tidy, halted),
-            outcome: Outcome::Settled { passes },
-        },
-        Outcome::NoTriple { pass, sum } => Run {
-            sheet,
-            outcome: Outcome::NoTriple { pass, sum },
-        },
-        Outcome::Stopped { passes } => Run {
-            sheet: with_cells(tidy, halted),
-            outcome: Outcome::Stopped { passes },
-        },
-        Outcome::Refused(r) => Run {
-            sheet,
-            outcome: Outcome::Refused(r),
-        },
+    if let Outcome::NoTriple { .. } = outcome {
+        return Run { sheet, outcome };
+    }
+    Run {
+        sheet: with_cells(tidy, halted),
+        outcome,
     }
 }
 

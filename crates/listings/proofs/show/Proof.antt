@@ -11,10 +11,10 @@ slice-aggregate-list : tie.Need-slice-aggregate-list
 slice-aggregate-list c = search needs
 
 list-requires : tie.Need-list-requires
-list-requires c κs = search needs
+list-requires c κs = tt
 
 enum-known-written : tie.Need-enum-known-written
-enum-known-written c = search needs
+enum-known-written c = c .match .keys1
 
 array-share-prefix-out : tie.Need-array-share-prefix-out
 array-share-prefix-out c = omega (arith, size-within _ _ _ (sym (c .before .before .before .before .list .ensures .answers) ∙ c .before .written .given .1), c .before .before .before .before .list .kept)
@@ -23,16 +23,16 @@ slice-aggregate-write-all : tie.Need-slice-aggregate-write-all
 slice-aggregate-write-all c = sym (length-take-le _ _ (omega (arith, size-within _ _ _ (sym (c .before .before .before .before .before .list .ensures .answers) ∙ c .before .before .written .given .1), c .before .before .before .before .before .list .kept)))
 
 write-all-requires : tie.Need-write-all-requires
-write-all-requires c κs = search needs
+write-all-requires c κs = tt
 
 enum-told : tie.Need-enum-told
-enum-told c = search needs
+enum-told c = c .match .keys2
 
 returns : tie.Need-returns
-returns c = search needs
+returns c = tt
 
 returns-2 : tie.Need-returns-2
-returns-2 c = search needs
+returns-2 c = tt
 
 pub show-spec : {M : Type 1} → statement M
 show-spec =

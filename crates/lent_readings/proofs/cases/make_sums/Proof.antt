@@ -15,22 +15,22 @@ loop-holds : tie.Need-loop-holds Inv-loop μ-loop
 loop-holds c = omega arith
 
 next-word-requires : tie.Need-next-word-requires Inv-loop μ-loop
-next-word-requires c κs = search needs
+next-word-requires c κs = tt
 
 sum-of-requires : tie.Need-sum-of-requires Inv-loop μ-loop
-sum-of-requires c κs = search needs
+sum-of-requires c κs = tt
 
 mul-lent : tie.Need-mul-lent Inv-loop μ-loop
-mul-lent c = search needs
+mul-lent c = omega arith
 
 array-set-from-lent : tie.Need-array-set-from-lent Inv-loop μ-loop
-array-set-from-lent c = search needs
+array-set-from-lent c = omega arith
 
 mul-kept : tie.Need-mul-kept Inv-loop μ-loop
-mul-kept c = search needs
+mul-kept c = omega arith
 
 array-set-from-kept : tie.Need-array-set-from-kept Inv-loop μ-loop
-array-set-from-kept c = search needs
+array-set-from-kept c = omega arith
 
 add-k : tie.Need-add-k Inv-loop μ-loop
 add-k c = omega arith
@@ -42,7 +42,7 @@ loop-again : tie.Need-loop-again Inv-loop μ-loop
 loop-again c = omega arith
 
 returns : tie.Need-returns Inv-loop μ-loop
-returns c = search needs
+returns c = tt
 
 pub make-sums-spec : {M : Type 1} → statement M
 make-sums-spec =

@@ -15,25 +15,25 @@ loop-holds : tie.Need-loop-holds Inv-loop μ-loop
 loop-holds c = omega arith
 
 mul-same : tie.Need-mul-same Inv-loop μ-loop
-mul-same c = search needs
+mul-same c = omega arith
 
 array-copy-out-same : tie.Need-array-copy-out-same Inv-loop μ-loop
-array-copy-out-same c = search needs
+array-copy-out-same c = omega arith
 
 mul-expected : tie.Need-mul-expected Inv-loop μ-loop
-mul-expected c = search needs
+mul-expected c = omega arith
 
 array-copy-out-expected : tie.Need-array-copy-out-expected Inv-loop μ-loop
-array-copy-out-expected c = search needs
+array-copy-out-expected c = omega arith
 
 expected-requires : tie.Need-expected-requires Inv-loop μ-loop
-expected-requires c κs = search needs
+expected-requires c κs = tt
 
 same-requires : tie.Need-same-requires Inv-loop μ-loop
-same-requires c κs = search needs
+same-requires c κs = tt
 
 returns : tie.Need-returns Inv-loop μ-loop
-returns c = search needs
+returns c = tt
 
 add-i : tie.Need-add-i Inv-loop μ-loop
 add-i c = omega arith
@@ -45,7 +45,7 @@ loop-again : tie.Need-loop-again Inv-loop μ-loop
 loop-again c = omega arith
 
 returns-2 : tie.Need-returns-2 Inv-loop μ-loop
-returns-2 c = search needs
+returns-2 c = tt
 
 pub same-cells-spec : {M : Type 1} → statement M
 same-cells-spec =

@@ -6,7 +6,7 @@ use Rattle.listing.proofs.digits.put_decimal.Statement.{statement}
 use Rattle.listing.proofs.digits.put_decimal.Tie as tie
 
 count-digits-requires : tie.Need-count-digits-requires
-count-digits-requires c κs = search needs
+count-digits-requires c κs = tt
 
 put-digits-requires : tie.Need-put-digits-requires
 put-digits-requires c κs = search needs

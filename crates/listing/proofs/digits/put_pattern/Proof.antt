@@ -6,7 +6,7 @@ use Rattle.listing.proofs.digits.put_pattern.Statement.{statement}
 use Rattle.listing.proofs.digits.put_pattern.Tie as tie
 
 pattern-digits-requires : tie.Need-pattern-digits-requires
-pattern-digits-requires c κs = search needs
+pattern-digits-requires c κs = tt
 
 put-digits-requires : tie.Need-put-digits-requires
 put-digits-requires c κs = search needs

@@ -5,10 +5,10 @@ use Rattle.listing.proofs.from_text.list.Statement.{statement}
 use Rattle.listing.proofs.from_text.list.Tie as tie
 
 run-text-requires : tie.Need-run-text-requires
-run-text-requires c κs = search needs
+run-text-requires c κs = tt
 
 write-run-requires : tie.Need-write-run-requires
-write-run-requires c κs = search needs
+write-run-requires c κs = tt
 
 same-length : tie.Need-same-length
 same-length c = search needs

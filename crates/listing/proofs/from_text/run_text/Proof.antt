@@ -5,16 +5,16 @@ use Rattle.listing.proofs.from_text.run_text.Statement.{statement}
 use Rattle.listing.proofs.from_text.run_text.Tie as tie
 
 read-requires : tie.Need-read-requires
-read-requires c κs = search needs
+read-requires c κs = tt
 
 enum-told : tie.Need-enum-told
-enum-told c = search needs
+enum-told c = c .match .keys1
 
 narrow-sheet-requires : tie.Need-narrow-sheet-requires
-narrow-sheet-requires c κs = search needs
+narrow-sheet-requires c κs = tt
 
 enum-known-answer : tie.Need-enum-known-answer
-enum-known-answer c = search needs
+enum-known-answer c = c .match .keys2
 
 returns : tie.Need-returns
 unfolding runOf

@@ -25,7 +25,7 @@ unfolding sizeIn storedIn
 returns c = let a = c .before .before .before .before .before .before .before .before .args in let e : length (take (a .n) (a .bytes .now)) ≡ a .n = length-take-le (a .n) (a .bytes .now) (omega arith) in let h : length (take (a .n) (a .bytes .now)) ≤ length (a .out .now) = omega arith in (rw (le-leb _ _ h, e), rw (le-leb _ _ h) (c .before .before .copy .ensures .stored ∙ over (take (a .n) (a .bytes .now)) (a .out .now) h))
 
 refuse-requires : tie.Need-refuse-requires
-refuse-requires c κs = search needs
+refuse-requires c κs = tt
 
 returns-2 : tie.Need-returns-2
 unfolding sizeIn storedIn

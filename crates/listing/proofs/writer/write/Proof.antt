@@ -28,10 +28,10 @@ not-refused (Refused r) refused rest h = absurd (elim h [
 ])
 
 narrow-sheet-requires : tie.Need-narrow-sheet-requires
-narrow-sheet-requires c κs = search needs
+narrow-sheet-requires c κs = tt
 
 enum-known-outcome : tie.Need-enum-known-outcome
-enum-known-outcome c = search needs
+enum-known-outcome c = c .match .keys1
 
 returns : tie.Need-returns
 unfolding writtenBy bufferBy
@@ -40,7 +40,7 @@ returns c =
     run-written (narrowSheetOf (s .sheet)) (s .out .now) _ _ (rw (← c .before .before .before .narrow-sheet .ensures .answer, c .before .outcome .given .1)) (rw (← c .before .before .before .narrow-sheet .ensures .answer, c .before .outcome .given .1))
 
 write-run-requires : tie.Need-write-run-requires
-write-run-requires c κs = search needs
+write-run-requires c κs = tt
 
 same-length : tie.Need-same-length
 same-length c = search needs

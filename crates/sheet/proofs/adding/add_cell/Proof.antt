@@ -1,96 +1,96 @@
--- `add_cell` meets its contract: each way out is a law of Answers.
+-- `add_cell` meets its contract: refused, the sheet as it came; else the sheet with a cell more.
 -- Assumes nothing.
-use borrow.Author.Needs.{needs}
-use Rattle.sheet.proofs.Answers.{add-tested, add-fault, add-full, added}
-use Rattle.sheet.specs.Cells.{canonicalCell}
-use Rattle.sheet.specs.Sheets.{testOf, tidied, withCell, addCellOf}
-use Rattle.sheet.specs.Faults.{cellFault}
+use mathlib.Core.Path.{_≡_, sym, ap₂, _∙_}
+use Prim.Native.Nat.{ℕ, _<_}
+use native.Mathlib.Omega.{arith}
 use lib.Dec.{ltb}
-use borrow.Author.Tests.{lt-ltb, le-ltb}
-use mathlib.Core.Path.{sym, _∙_}
+use borrow.Author.Tests.{ltb-true}
+use Rattle.sheet.specs.declared.kept.Answer.{Answer}
+use Rattle.sheet.specs.Cells.{canonicalCell}
+use Rattle.sheet.specs.Faults.{cellFault}
+use Rattle.sheet.specs.Sheets.{testOf, tidied, addTest, withCell, addCellOf}
+use Rattle.sheet.proofs.Answers.{Admitted, admitted, add-kept, add-new}
 use Rattle.sheet.proofs.adding.add_cell.Statement.{statement}
 use Rattle.sheet.proofs.adding.add_cell.Tie as tie
 
-test-sheet-requires : tie.Need-test-sheet-requires
-test-sheet-requires c κs = search needs
+-- the answer is that of the order of adding
+answered :
+    (c : tie.After-test-addition) →
+    let g = c .before .before .before .args in
+    let s = g .sheet in
+    c .test-addition .result ≡ addTest (testOf s) (cellFault (s .width) (g .cell)) (ltb (s .«cell_count») 64)
+answered c =
+    let s = c .before .before .before .args .sheet in
+    c .test-addition .ensures ∙ ap₂ (λ (a : Answer) (n : ℕ). addTest a n (ltb (s .«cell_count») 64)) (c .before .test-sheet .ensures) (c .before .before .cell-fault .ensures)
 
-enum-known-tested : tie.Need-enum-known-tested
-enum-known-tested c = search needs
+-- so nothing is due
+free :
+    (c : tie.After-enum-told2) →
+    let g = c .before .before .before .before .before .args in
+    let s = g .sheet in
+    Admitted (testOf s) (cellFault (s .width) (g .cell)) (ltb (s .«cell_count») 64)
+free c = admitted _ _ _ (sym (answered (c .before .before)) ∙ c .enum-told2 .given .1)
+
+room : (c : tie.After-enum-told2) → c .before .before .before .before .before .args .sheet .«cell_count» < 64
+room c = ltb-true _ _ (free c .roomy)
+
+cell-fault-requires : tie.Need-cell-fault-requires
+cell-fault-requires c κs = tt
+
+test-sheet-requires : tie.Need-test-sheet-requires
+test-sheet-requires c κs = tt
+
+test-addition-requires : tie.Need-test-addition-requires
+test-addition-requires c κs = tt
+
+enum-told : tie.Need-enum-told
+enum-told c = c .match .keys1
 
 returns : tie.Need-returns
 unfolding addCellOf
 returns c =
-    let g = c .before .before .before .before .args in
+    let g = c .before .before .before .before .before .args in
     let s = g .sheet in
-    add-tested s (withCell (tidied s) (canonicalCell (s .width) (g .cell))) (testOf s) (cellFault (s .width) (g .cell)) (ltb (s .«cell_count») 64) _ (sym (c .before .before .before .test-sheet .ensures) ∙ c .before .tested .given .1)
+    add-kept s (withCell (tidied s) (canonicalCell (s .width) (g .cell))) _ _ (answered (c .before .before)) _ (c .enum-told .given .1)
 
-enum-told : tie.Need-enum-told
-enum-told c = search needs
-
-cell-fault-requires : tie.Need-cell-fault-requires
-cell-fault-requires c κs = search needs
-
-refuse-at-requires : tie.Need-refuse-at-requires
-refuse-at-requires c κs = search needs
-
-returns-2 : tie.Need-returns-2
-unfolding addCellOf
-returns-2 c =
-    let g = c .before .before .before .before .before .before .args in
-    let s = g .sheet in
-    let h = c .before .before .cell-fault in
-    rw (c .refuse-at .ensures, h .ensures) (add-fault s (withCell (tidied s) (canonicalCell (s .width) (g .cell))) (testOf s) (cellFault (s .width) (g .cell)) (ltb (s .«cell_count») 64) (sym (c .before .before .before .before .before .test-sheet .ensures) ∙ c .before .before .before .enum-told .given .1) (λ e. c .before .if1 .taken (h .ensures ∙ e)))
-
-refuse-at-requires-2 : tie.Need-refuse-at-requires-2
-refuse-at-requires-2 c κs = search needs
-
-returns-3 : tie.Need-returns-3
-unfolding addCellOf
-returns-3 c =
-    let g = c .before .before .before .before .before .before .before .args in
-    let s = g .sheet in
-    let h = c .before .before .before .cell-fault in
-    rw (c .refuse-at2 .ensures) (add-full s (withCell (tidied s) (canonicalCell (s .width) (g .cell))) (testOf s) (cellFault (s .width) (g .cell)) (ltb (s .«cell_count») 64) (sym (c .before .before .before .before .before .before .test-sheet .ensures) ∙ c .before .before .before .before .enum-told .given .1) (sym (h .ensures) ∙ c .before .before .if1 .left) (le-ltb _ _ (c .before .if2 .taken)))
+enum-told-2 : tie.Need-enum-told-2
+enum-told-2 c = c .match .keys2
 
 tidy-requires : tie.Need-tidy-requires
-tidy-requires c κs = sym (c .before .before .before .before .before .test-sheet .ensures) ∙ c .before .before .before .enum-told .given .1
+tidy-requires c κs = free c .tests
 
 write-cell-requires : tie.Need-write-cell-requires
-write-cell-requires c κs = search needs
+write-cell-requires c κs = free (c .before) .faultless
 
-mul-t15 : tie.Need-mul-t15
-mul-t15 c = search needs
+mul-t12 : tie.Need-mul-t12
+mul-t12 c = let h = room (c .before .before) in omega arith
 
 element-set-from-next : tie.Need-element-set-from-next
-element-set-from-next c = search needs
+element-set-from-next c = let h = room (c .before .before) in omega arith
 
 add-next : tie.Need-add-next
-add-next c = search needs
+add-next c = let h = room (c .before .before) in omega arith
 
-returns-4 : tie.Need-returns-4
+returns-2 : tie.Need-returns-2
 unfolding addCellOf tidied
-returns-4 c =
-    let g = c .before .before .before .before .before .before .before .before .args in
+returns-2 c =
+    let g = c .before .before .before .before .before .before .before .args in
     let s = g .sheet in
-    let h = c .before .before .before .before .cell-fault in
-    rw (c .before .tidy .ensures, c .write-cell .ensures) (added s (withCell (tidied s) (canonicalCell (s .width) (g .cell))) (testOf s) (cellFault (s .width) (g .cell)) (ltb (s .«cell_count») 64) (sym (c .before .before .before .before .before .before .before .test-sheet .ensures) ∙ c .before .before .before .before .before .enum-told .given .1) (sym (h .ensures) ∙ c .before .before .before .if1 .left) (lt-ltb _ _ (c .before .before .if2 .left)))
+    rw (c .before .tidy .ensures, c .write-cell .ensures) (add-new s (withCell (tidied s) (canonicalCell (s .width) (g .cell))) _ _ (answered (c .before .before .before .before)) (c .before .before .enum-told2 .given .1))
 
 pub add-cell-spec : {M : Type 1} → statement M
 add-cell-spec =
     tie.close
     (tie.spec
-    test-sheet-requires
-    enum-known-tested
-    returns
-    enum-told
     cell-fault-requires
-    refuse-at-requires
-    returns-2
-    refuse-at-requires-2
-    returns-3
+    test-sheet-requires
+    test-addition-requires
+    enum-told
+    returns
+    enum-told-2
     tidy-requires
     write-cell-requires
-    mul-t15
+    mul-t12
     element-set-from-next
     add-next
-    returns-4)
+    returns-2)

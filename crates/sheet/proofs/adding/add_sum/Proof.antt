@@ -1,91 +1,91 @@
--- `add_sum` meets its contract: each way out is a law of Answers.
+-- `add_sum` meets its contract: refused, the sheet as it came; else the sheet with a sum more.
 -- Assumes nothing.
-use borrow.Author.Needs.{needs}
-use Rattle.sheet.proofs.Answers.{add-tested, add-fault, add-full, added}
-use Rattle.sheet.specs.Sheets.{testOf, tidied, withSum, addSumOf}
-use Rattle.sheet.specs.Faults.{sumFault}
+use mathlib.Core.Path.{_≡_, sym, ap₂, _∙_}
+use Prim.Native.Nat.{ℕ, _<_}
+use native.Mathlib.Omega.{arith}
 use lib.Dec.{ltb}
-use borrow.Author.Tests.{lt-ltb, le-ltb}
-use mathlib.Core.Path.{sym, _∙_}
+use borrow.Author.Tests.{ltb-true}
+use Rattle.sheet.specs.declared.kept.Answer.{Answer}
+use Rattle.sheet.specs.Faults.{sumFault}
+use Rattle.sheet.specs.Sheets.{testOf, tidied, addTest, withSum, addSumOf}
+use Rattle.sheet.proofs.Answers.{Admitted, admitted, add-kept, add-new}
 use Rattle.sheet.proofs.adding.add_sum.Statement.{statement}
 use Rattle.sheet.proofs.adding.add_sum.Tie as tie
 
-test-sheet-requires : tie.Need-test-sheet-requires
-test-sheet-requires c κs = search needs
+-- the answer is that of the order of adding
+answered :
+    (c : tie.After-test-addition) →
+    let g = c .before .before .before .args in
+    let s = g .sheet in
+    c .test-addition .result ≡ addTest (testOf s) (sumFault (s .«cell_count») (g .sum)) (ltb (s .«sum_count») 128)
+answered c =
+    let s = c .before .before .before .args .sheet in
+    c .test-addition .ensures ∙ ap₂ (λ (a : Answer) (n : ℕ). addTest a n (ltb (s .«sum_count») 128)) (c .before .test-sheet .ensures) (c .before .before .sum-fault .ensures)
 
-enum-known-tested : tie.Need-enum-known-tested
-enum-known-tested c = search needs
+-- so nothing is due
+free :
+    (c : tie.After-enum-told2) →
+    let g = c .before .before .before .before .before .args in
+    let s = g .sheet in
+    Admitted (testOf s) (sumFault (s .«cell_count») (g .sum)) (ltb (s .«sum_count») 128)
+free c = admitted _ _ _ (sym (answered (c .before .before)) ∙ c .enum-told2 .given .1)
+
+room : (c : tie.After-enum-told2) → c .before .before .before .before .before .args .sheet .«sum_count» < 128
+room c = ltb-true _ _ (free c .roomy)
+
+sum-fault-requires : tie.Need-sum-fault-requires
+sum-fault-requires c κs = tt
+
+test-sheet-requires : tie.Need-test-sheet-requires
+test-sheet-requires c κs = tt
+
+test-addition-requires : tie.Need-test-addition-requires
+test-addition-requires c κs = tt
+
+enum-told : tie.Need-enum-told
+enum-told c = c .match .keys1
 
 returns : tie.Need-returns
 unfolding addSumOf
 returns c =
-    let g = c .before .before .before .before .args in
+    let g = c .before .before .before .before .before .args in
     let s = g .sheet in
-    add-tested s (withSum (tidied s) (g .sum)) (testOf s) (sumFault (s .«cell_count») (g .sum)) (ltb (s .«sum_count») 128) _ (sym (c .before .before .before .test-sheet .ensures) ∙ c .before .tested .given .1)
+    add-kept s (withSum (tidied s) (g .sum)) _ _ (answered (c .before .before)) _ (c .enum-told .given .1)
 
-enum-told : tie.Need-enum-told
-enum-told c = search needs
+enum-told-2 : tie.Need-enum-told-2
+enum-told-2 c = c .match .keys2
 
-sum-fault-requires : tie.Need-sum-fault-requires
-sum-fault-requires c κs = search needs
+tidy-requires : tie.Need-tidy-requires
+tidy-requires c κs = free c .tests
 
-refuse-at-requires : tie.Need-refuse-at-requires
-refuse-at-requires c κs = search needs
+mul-sum : tie.Need-mul-sum
+mul-sum c = let h = room (c .before) in omega arith
+
+element-set-from-sum : tie.Need-element-set-from-sum
+element-set-from-sum c = let h = room (c .before) in omega arith
+
+add-next : tie.Need-add-next
+add-next c = let h = room (c .before) in omega arith
 
 returns-2 : tie.Need-returns-2
-unfolding addSumOf
+unfolding addSumOf tidied
 returns-2 c =
     let g = c .before .before .before .before .before .before .args in
     let s = g .sheet in
-    let h = c .before .before .sum-fault in
-    rw (c .refuse-at .ensures, h .ensures) (add-fault s (withSum (tidied s) (g .sum)) (testOf s) (sumFault (s .«cell_count») (g .sum)) (ltb (s .«sum_count») 128) (sym (c .before .before .before .before .before .test-sheet .ensures) ∙ c .before .before .before .enum-told .given .1) (λ e. c .before .if1 .taken (h .ensures ∙ e)))
-
-refuse-at-requires-2 : tie.Need-refuse-at-requires-2
-refuse-at-requires-2 c κs = search needs
-
-returns-3 : tie.Need-returns-3
-unfolding addSumOf
-returns-3 c =
-    let g = c .before .before .before .before .before .before .before .args in
-    let s = g .sheet in
-    let h = c .before .before .before .sum-fault in
-    rw (c .refuse-at2 .ensures) (add-full s (withSum (tidied s) (g .sum)) (testOf s) (sumFault (s .«cell_count») (g .sum)) (ltb (s .«sum_count») 128) (sym (c .before .before .before .before .before .before .test-sheet .ensures) ∙ c .before .before .before .before .enum-told .given .1) (sym (h .ensures) ∙ c .before .before .if1 .left) (le-ltb _ _ (c .before .if2 .taken)))
-
-tidy-requires : tie.Need-tidy-requires
-tidy-requires c κs = sym (c .before .before .before .before .before .test-sheet .ensures) ∙ c .before .before .before .enum-told .given .1
-
-mul-sum : tie.Need-mul-sum
-mul-sum c = search needs
-
-element-set-from-sum : tie.Need-element-set-from-sum
-element-set-from-sum c = search needs
-
-add-next : tie.Need-add-next
-add-next c = search needs
-
-returns-4 : tie.Need-returns-4
-unfolding addSumOf tidied
-returns-4 c =
-    let g = c .before .before .before .before .before .before .before .args in
-    let s = g .sheet in
-    let h = c .before .before .before .sum-fault in
-    rw (c .tidy .ensures) (added s (withSum (tidied s) (g .sum)) (testOf s) (sumFault (s .«cell_count») (g .sum)) (ltb (s .«sum_count») 128) (sym (c .before .before .before .before .before .before .test-sheet .ensures) ∙ c .before .before .before .before .enum-told .given .1) (sym (h .ensures) ∙ c .before .before .if1 .left) (lt-ltb _ _ (c .before .if2 .left)))
+    rw (c .tidy .ensures) (add-new s (withSum (tidied s) (g .sum)) _ _ (answered (c .before .before .before)) (c .before .enum-told2 .given .1))
 
 pub add-sum-spec : {M : Type 1} → statement M
 add-sum-spec =
     tie.close
     (tie.spec
-    test-sheet-requires
-    enum-known-tested
-    returns
-    enum-told
     sum-fault-requires
-    refuse-at-requires
-    returns-2
-    refuse-at-requires-2
-    returns-3
+    test-sheet-requires
+    test-addition-requires
+    enum-told
+    returns
+    enum-told-2
     tidy-requires
     mul-sum
     element-set-from-sum
     add-next
-    returns-4)
+    returns-2)

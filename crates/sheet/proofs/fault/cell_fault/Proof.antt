@@ -1,19 +1,18 @@
 -- `cell_fault` meets its contract: the number of what `canonical` answers.
 -- Assumes nothing.
-use borrow.Author.Needs.{needs}
 use mathlib.Core.Path.{sym, ap, _∙_}
 use Rattle.sheet.specs.Faults.{imageNumber, cellFault}
 use Rattle.sheet.proofs.fault.cell_fault.Statement.{statement}
 use Rattle.sheet.proofs.fault.cell_fault.Tie as tie
 
 canonical-requires : tie.Need-canonical-requires
-canonical-requires c κs = search needs
+canonical-requires c κs = tt
 
 enum-told : tie.Need-enum-told
-enum-told c = search needs
+enum-told c = c .match .keys1
 
 enum-known-r : tie.Need-enum-known-r
-enum-known-r c = search needs
+enum-known-r c = c .match .keys2
 
 returns : tie.Need-returns
 unfolding cellFault

@@ -1,6 +1,5 @@
 -- `head_fault` meets its contract: each test on the way says which case of `headFault` holds.
 -- Assumes nothing.
-use borrow.Author.Needs.{needs}
 use Rattle.sheet.specs.Faults.{headFault}
 use borrow.Author.Tests.{lt-ltb, le-ltb, not-true, not-false}
 use mathlib.Core.Path.{sym, _∙_}
@@ -8,7 +7,7 @@ use Rattle.sheet.proofs.fault.head_fault.Statement.{statement}
 use Rattle.sheet.proofs.fault.head_fault.Tie as tie
 
 known-requires : tie.Need-known-requires
-known-requires c κs = search needs
+known-requires c κs = tt
 
 returns : tie.Need-returns
 unfolding headFault

@@ -1,18 +1,17 @@
 -- `open` meets its contract.
 -- Assumes nothing.
-use borrow.Author.Needs.{needs}
 use Rattle.sheet.proofs.Answers.{open-refused, opened}
 use Rattle.sheet.proofs.kept.open.Statement.{statement}
 use Rattle.sheet.proofs.kept.open.Tie as tie
 
 head-fault-requires : tie.Need-head-fault-requires
-head-fault-requires c κs = search needs
+head-fault-requires c κs = tt
 
 blank-sheet-requires : tie.Need-blank-sheet-requires
-blank-sheet-requires c κs = search needs
+blank-sheet-requires c κs = tt
 
 refuse-requires : tie.Need-refuse-requires
-refuse-requires c κs = search needs
+refuse-requires c κs = tt
 
 returns : tie.Need-returns
 returns c =
@@ -21,7 +20,7 @@ returns c =
     rw (c .before .blank-sheet .ensures, c .refuse .ensures) (open-refused (s .width) (s .limit) (h .result) (h .ensures) (c .before .before .if1 .taken))
 
 blank-sheet-requires-2 : tie.Need-blank-sheet-requires-2
-blank-sheet-requires-2 c κs = search needs
+blank-sheet-requires-2 c κs = tt
 
 returns-2 : tie.Need-returns-2
 returns-2 c =

@@ -1,13 +1,12 @@
 -- `lent::count_lists` meets its contract. Assumes nothing.
 use mathlib.Core.Path.{ap}
-use borrow.Author.Needs.{needs}
 use Rattle.sheet.specs.declared.kept.Sheet.{Sheet}
 use Rattle.sheet.specs.Loading.{withCounts}
 use Rattle.sheet.proofs.lent.count_lists.Statement.{statement}
 use Rattle.sheet.proofs.lent.count_lists.Tie as tie
 
 blank-sheet-requires : tie.Need-blank-sheet-requires
-blank-sheet-requires c κs = search needs
+blank-sheet-requires c κs = tt
 
 returns : tie.Need-returns
 returns c = ap (λ (s : Sheet). withCounts s (c .before .args .cell-count) (c .before .args .sum-count)) (c .blank-sheet .ensures)

@@ -1,64 +1,44 @@
--- `finish` meets its contract: each case of the outcome is a law of Finishing.
+-- `finish` meets its contract: with no triple, and with a box, the answer is a law of Finishing.
 -- Assumes nothing.
-use borrow.Author.Needs.{needs}
-use Rattle.sheet.proofs.Finishing.{finish-settled, finish-stopped, finish-none, finish-never}
+use mathlib.Core.Path.{_≡_}
+use mathlib.Core.List.{[], _∷_}
+use mathlib.Core.Logic.{inl, inr}
+use Prim.Native.Nat.{ℕ}
+use native.Mathlib.Omega.{arith}
+use types.Run.{OneOf}
+use denote.Enum.Declared.{tagOf}
+use Rattle.sheet.proofs.passes.Outcome as T
+use Rattle.sheet.specs.declared.passes.Outcome.{Outcome}
+use Rattle.sheet.specs.declared.passes.Outcome.the-variants.{NoTriple}
+use Rattle.sheet.proofs.Finishing.{finish-none, finish-box}
 use Rattle.sheet.specs.Steps.{endOf}
 use Rattle.sheet.proofs.narrowing.finish.Statement.{statement}
 use Rattle.sheet.proofs.narrowing.finish.Tie as tie
 
-enum-known-outcome : tie.Need-enum-known-outcome
-enum-known-outcome c = search needs
+-- an outcome of another kind is no 'no triple'
+another : (o : Outcome) → OneOf (0 ∷ 2 ∷ 3 ∷ []) (tagOf T.the-type o) → (p k : ℕ) → o ≡ NoTriple p k → ⊥
+another o h p k e = elim (rw e at h) [
+  | inl z ↦ omega arith
+  | inr h′ ↦ elim h′ [ inl z ↦ omega arith | inr z ↦ omega arith ]
+]
 
-with-cells-requires : tie.Need-with-cells-requires
-with-cells-requires c κs = search needs
-
-enum-known-outcome-2 : tie.Need-enum-known-outcome-2
-enum-known-outcome-2 c = search needs
-
-enum-known-outcome-3 : tie.Need-enum-known-outcome-3
-enum-known-outcome-3 c = search needs
-
-with-cells-requires-2 : tie.Need-with-cells-requires-2
-with-cells-requires-2 c κs = search needs
-
-enum-known-outcome-4 : tie.Need-enum-known-outcome-4
-enum-known-outcome-4 c = search needs
+enum-told : tie.Need-enum-told
+enum-told c = c .match .keys1
 
 returns : tie.Need-returns
 returns c =
-    let a = c .before .before .before .before .args in
-    let h = c .before .before .before .before .pre in
-    rw (c .with-cells .ensures) (finish-settled (a .sheet) (a .tidy) (a .halted) (h .0) (endOf (a .tidy)) (h .1) _ (c .before .before .outcome .given .1))
+    let a = c .before .before .args in
+    let h = c .before .before .pre in
+    finish-none (a .sheet) (a .tidy) (a .halted) (h .0) (endOf (a .tidy)) (h .1) _ _ (c .enum-told .given .1)
+
+with-cells-requires : tie.Need-with-cells-requires
+with-cells-requires c κs = tt
 
 returns-2 : tie.Need-returns-2
 returns-2 c =
-    let a = c .before .before .before .args in
-    let h = c .before .before .before .pre in
-    finish-none (a .sheet) (a .tidy) (a .halted) (h .0) (endOf (a .tidy)) (h .1) _ _ (c .before .outcome2 .given .1)
-
-returns-3 : tie.Need-returns-3
-returns-3 c =
-    let a = c .before .before .before .before .args in
-    let h = c .before .before .before .before .pre in
-    rw (c .with-cells2 .ensures) (finish-stopped (a .sheet) (a .tidy) (a .halted) (h .0) (endOf (a .tidy)) (h .1) _ (c .before .before .outcome3 .given .1))
-
-returns-4 : tie.Need-returns-4
-returns-4 c =
-    let a = c .before .before .before .args in
-    let h = c .before .before .before .pre in
-    absurd (finish-never (a .sheet) (a .tidy) (a .halted) (h .0) (endOf (a .tidy)) (h .1) _ (c .before .outcome4 .given .1))
+    let a = c .before .before .args in
+    let h = c .before .before .pre in
+    rw (c .with-cells .ensures) (finish-box (a .sheet) (a .tidy) (a .halted) (h .0) (endOf (a .tidy)) (h .1) (another (a .halted .outcome) (c .before .match .keys2)))
 
 pub finish-spec : {M : Type 1} → statement M
-finish-spec =
-    tie.close
-    (tie.spec
-    enum-known-outcome
-    with-cells-requires
-    enum-known-outcome-2
-    enum-known-outcome-3
-    with-cells-requires-2
-    enum-known-outcome-4
-    returns
-    returns-2
-    returns-3
-    returns-4)
+finish-spec = tie.close (tie.spec enum-told returns with-cells-requires returns-2)

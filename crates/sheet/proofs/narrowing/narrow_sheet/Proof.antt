@@ -1,6 +1,5 @@
 -- `narrow_sheet` meets its contract: refused, or the run from the tidied sheet, which is the run from the cells first given.
 -- Assumes nothing.
-use borrow.Author.Needs.{needs}
 use Rattle.sheet.proofs.Finishing.{refused-narrows, run-narrows}
 use Rattle.sheet.proofs.Tidied.{tidied-ready, tidied-end}
 use Rattle.sheet.proofs.Filling.{mapped-long}
@@ -16,16 +15,16 @@ long : (c : tie.Start) → (length (c .args .sheet .cells) ≡ 64) × (length (c
 long c = (mapped-long _ (c .args .sheet .cells) 64 (c .good .0 .1 .1 .1 .1 .1 .1 .0 .1 .0 .1), mapped-long _ (c .args .sheet .sums) 128 (c .good .0 .1 .1 .1 .1 .1 .1 .1 .0 .1 .0 .1))
 
 test-sheet-requires : tie.Need-test-sheet-requires
-test-sheet-requires c κs = search needs
+test-sheet-requires c κs = tt
 
 enum-known-tested : tie.Need-enum-known-tested
-enum-known-tested c = search needs
+enum-known-tested c = c .match .keys1
 
 returns : tie.Need-returns
 returns c = refused-narrows (c .before .before .before .before .args .sheet) _ (sym (c .before .before .before .test-sheet .ensures) ∙ c .before .tested .given .1)
 
 enum-told : tie.Need-enum-told
-enum-told c = search needs
+enum-told c = c .match .keys2
 
 tidy-requires : tie.Need-tidy-requires
 tidy-requires c κs = sym (c .before .before .test-sheet .ensures) ∙ c .enum-told .given .1
@@ -37,7 +36,7 @@ run-passes-requires c κs =
     subst Ready (sym (c .tidy .ensures)) (tidied-ready s (l .0) (l .1) (sym (c .before .before .before .test-sheet .ensures) ∙ c .before .enum-told .given .1))
 
 finish-requires : tie.Need-finish-requires
-finish-requires c κs = search needs
+finish-requires c κs = (c .before .tidy .ensures, c .run-passes .ensures)
 
 returns-2 : tie.Need-returns-2
 returns-2 c =

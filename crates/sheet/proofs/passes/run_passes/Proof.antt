@@ -10,8 +10,9 @@ use Rattle.sheet.specs.Runs.{whole, passFrom, runFrom, sameBox}
 use Rattle.sheet.specs.Sheets.{noSum, usedSums}
 use Rattle.sheet.specs.Boxes.{Names}
 use lib.ListN.{length, getD, take, drop}
-use Prim.Native.Nat.{_-_, _≤_, _<_}
-use borrow.Author.Needs.{needs}
+use Prim.Native.Nat.{ℕ, _*_, _-_, _≤_, _<_}
+use package.mir.Syntax.{w64}
+use package.mir.Val.{Fits}
 use mathlib.Core.Path.{_≡_, refl, sym, subst, _∙_}
 use Rattle.sheet.proofs.passes.run_passes.Statement.{statement}
 use Rattle.sheet.proofs.passes.run_passes.Tie as tie
@@ -45,6 +46,10 @@ reach c =
     let h = c .before .before .before .before .before .pre .few-cells in
     (omega arith, omega arith, omega arith)
 
+-- the offset of a cell's place is a word
+fits : (n : ℕ) → n < 64 → Fits w64 (n * 16)
+fits n h = omega arith
+
 -- a pass that has left the inner loop at its end gave the box that stands there
 went-through :
     (c : tie.After-sums Inv-sums μ-sums Inv-passes μ-passes) →
@@ -77,49 +82,49 @@ array-copy-out-sum : tie.Need-array-copy-out-sum Inv-sums μ-sums Inv-passes μ-
 array-copy-out-sum c = let h = c .before .before .before .before .before .pre .few-sums in omega arith
 
 mul-x : tie.Need-mul-x Inv-sums μ-sums Inv-passes μ-passes
-mul-x c = let h = reach (c .before) in omega arith
+mul-x c = fits _ (reach (c .before) .0)
 
 array-copy-out-x : tie.Need-array-copy-out-x Inv-sums μ-sums Inv-passes μ-passes
-array-copy-out-x c = let h = reach (c .before) in omega arith
+array-copy-out-x c = reach (c .before) .0
 
 mul-a : tie.Need-mul-a Inv-sums μ-sums Inv-passes μ-passes
-mul-a c = let h = reach (c .before .before) in omega arith
+mul-a c = fits _ (reach (c .before .before) .1)
 
 array-copy-out-a : tie.Need-array-copy-out-a Inv-sums μ-sums Inv-passes μ-passes
-array-copy-out-a c = let h = reach (c .before .before) in omega arith
+array-copy-out-a c = reach (c .before .before) .1
 
 mul-b : tie.Need-mul-b Inv-sums μ-sums Inv-passes μ-passes
-mul-b c = let h = reach (c .before .before .before) in omega arith
+mul-b c = fits _ (reach (c .before .before .before) .2)
 
 array-copy-out-b : tie.Need-array-copy-out-b Inv-sums μ-sums Inv-passes μ-passes
-array-copy-out-b c = let h = reach (c .before .before .before) in omega arith
+array-copy-out-b c = reach (c .before .before .before) .2
 
 narrow-requires : tie.Need-narrow-requires Inv-sums μ-sums Inv-passes μ-passes
 narrow-requires c κs = tt
 
 enum-known-p : tie.Need-enum-known-p Inv-sums μ-sums Inv-passes μ-passes
-enum-known-p c = search needs
+enum-known-p c = c .match .keys1
 
 enum-told : tie.Need-enum-told Inv-sums μ-sums Inv-passes μ-passes
-enum-told c = search needs
+enum-told c = c .match .keys2
 
 mul-cells : tie.Need-mul-cells Inv-sums μ-sums Inv-passes μ-passes
-mul-cells c = let h = reach (c .before .before .before .before .before .before .before .before) in omega arith
+mul-cells c = fits _ (reach (c .before .before .before .before .before .before .before .before) .0)
 
 array-set-from-cells : tie.Need-array-set-from-cells Inv-sums μ-sums Inv-passes μ-passes
-array-set-from-cells c = let h = reach (c .before .before .before .before .before .before .before .before) in omega arith
+array-set-from-cells c = reach (c .before .before .before .before .before .before .before .before) .0
 
 mul-cells-2 : tie.Need-mul-cells-2 Inv-sums μ-sums Inv-passes μ-passes
-mul-cells-2 c = let h = reach (c .before .before .before .before .before .before .before .before) in omega arith
+mul-cells-2 c = fits _ (reach (c .before .before .before .before .before .before .before .before) .1)
 
 array-set-from-cells-2 : tie.Need-array-set-from-cells-2 Inv-sums μ-sums Inv-passes μ-passes
-array-set-from-cells-2 c = let h = reach (c .before .before .before .before .before .before .before .before) in omega arith
+array-set-from-cells-2 c = reach (c .before .before .before .before .before .before .before .before) .1
 
 mul-cells-3 : tie.Need-mul-cells-3 Inv-sums μ-sums Inv-passes μ-passes
-mul-cells-3 c = let h = reach (c .before .before .before .before .before .before .before .before) in omega arith
+mul-cells-3 c = fits _ (reach (c .before .before .before .before .before .before .before .before) .2)
 
 array-set-from-cells-3 : tie.Need-array-set-from-cells-3 Inv-sums μ-sums Inv-passes μ-passes
-array-set-from-cells-3 c = let h = reach (c .before .before .before .before .before .before .before .before) in omega arith
+array-set-from-cells-3 c = reach (c .before .before .before .before .before .before .before .before) .2
 
 add-k : tie.Need-add-k Inv-sums μ-sums Inv-passes μ-passes
 add-k c = omega arith

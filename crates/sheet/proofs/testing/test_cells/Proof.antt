@@ -30,10 +30,10 @@ array-copy-out-cell-fault : tie.Need-array-copy-out-cell-fault Inv-loop μ-loop
 array-copy-out-cell-fault c = omega arith
 
 cell-fault-requires : tie.Need-cell-fault-requires Inv-loop μ-loop
-cell-fault-requires c κs = search needs
+cell-fault-requires c κs = tt
 
 refuse-at-requires : tie.Need-refuse-at-requires Inv-loop μ-loop
-refuse-at-requires c κs = search needs
+refuse-at-requires c κs = tt
 
 returns : tie.Need-returns Inv-loop μ-loop
 returns c =

@@ -1,17 +1,17 @@
 -- `test_sheet` meets its contract: each way out is a law of Answers.
 -- Assumes nothing.
-use borrow.Author.Needs.{needs}
 use Rattle.sheet.proofs.Answers.{test-head, test-many-cells, test-many-sums, test-bad-cell, test-good-cells}
 use Rattle.sheet.specs.Sheets.{usedCells, usedSums}
+use native.Mathlib.Omega.{arith}
 use mathlib.Core.Path.{sym, _∙_}
 use Rattle.sheet.proofs.testing.test_sheet.Statement.{statement}
 use Rattle.sheet.proofs.testing.test_sheet.Tie as tie
 
 head-fault-requires : tie.Need-head-fault-requires
-head-fault-requires c κs = search needs
+head-fault-requires c κs = tt
 
 refuse-at-requires : tie.Need-refuse-at-requires
-refuse-at-requires c κs = search needs
+refuse-at-requires c κs = tt
 
 returns : tie.Need-returns
 returns c =
@@ -20,7 +20,7 @@ returns c =
     c .refuse-at .ensures ∙ rw (h .ensures) (test-head (s .width) (s .limit) (s .«cell_count») (s .«sum_count») (usedCells s) (usedSums s) (λ e. c .before .if1 .taken (h .ensures ∙ e)))
 
 refuse-at-requires-2 : tie.Need-refuse-at-requires-2
-refuse-at-requires-2 c κs = search needs
+refuse-at-requires-2 c κs = tt
 
 returns-2 : tie.Need-returns-2
 returns-2 c =
@@ -29,7 +29,7 @@ returns-2 c =
     c .refuse-at2 .ensures ∙ test-many-cells (s .width) (s .limit) (s .«cell_count») (s .«sum_count») (usedCells s) (usedSums s) (sym (h .ensures) ∙ c .before .before .before .if1 .left) (c .before .if2 .taken)
 
 refuse-at-requires-3 : tie.Need-refuse-at-requires-3
-refuse-at-requires-3 c κs = search needs
+refuse-at-requires-3 c κs = tt
 
 returns-3 : tie.Need-returns-3
 returns-3 c =
@@ -38,10 +38,10 @@ returns-3 c =
     c .refuse-at3 .ensures ∙ test-many-sums (s .width) (s .limit) (s .«cell_count») (s .«sum_count») (usedCells s) (usedSums s) (sym (h .ensures) ∙ c .before .before .before .before .before .if1 .left) (c .before .before .before .if2 .left) (c .before .if3 .taken)
 
 test-cells-requires : tie.Need-test-cells-requires
-test-cells-requires c κs = search needs
+test-cells-requires c κs = omega arith
 
 enum-known-found : tie.Need-enum-known-found
-enum-known-found c = search needs
+enum-known-found c = c .match .keys1
 
 returns-4 : tie.Need-returns-4
 returns-4 c =
@@ -50,10 +50,10 @@ returns-4 c =
     test-bad-cell (s .width) (s .limit) (s .«cell_count») (s .«sum_count») (usedCells s) (usedSums s) (sym (h .ensures) ∙ c .before .before .before .before .before .before .before .before .before .if1 .left) (c .before .before .before .before .before .before .before .if2 .left) (c .before .before .before .before .before .if3 .left) _ (sym (c .before .before .before .test-cells .ensures) ∙ c .before .found .given .1)
 
 enum-told : tie.Need-enum-told
-enum-told c = search needs
+enum-told c = c .match .keys2
 
 test-sums-requires : tie.Need-test-sums-requires
-test-sums-requires c κs = search needs
+test-sums-requires c κs = omega arith
 
 returns-5 : tie.Need-returns-5
 returns-5 c =

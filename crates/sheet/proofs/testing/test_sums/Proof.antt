@@ -30,10 +30,10 @@ array-copy-out-sum-fault : tie.Need-array-copy-out-sum-fault Inv-loop μ-loop
 array-copy-out-sum-fault c = omega arith
 
 sum-fault-requires : tie.Need-sum-fault-requires Inv-loop μ-loop
-sum-fault-requires c κs = search needs
+sum-fault-requires c κs = tt
 
 refuse-at-requires : tie.Need-refuse-at-requires Inv-loop μ-loop
-refuse-at-requires c κs = search needs
+refuse-at-requires c κs = tt
 
 returns : tie.Need-returns Inv-loop μ-loop
 returns c =

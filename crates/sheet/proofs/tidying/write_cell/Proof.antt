@@ -1,19 +1,18 @@
 -- `write_cell` meets its contract: a cell without a fault is not refused.
 -- Assumes nothing.
-use borrow.Author.Needs.{needs}
 use Rattle.sheet.proofs.Cells.{written, not-refused}
 use mathlib.Core.Path.{sym, _∙_}
 use Rattle.sheet.proofs.tidying.write_cell.Statement.{statement}
 use Rattle.sheet.proofs.tidying.write_cell.Tie as tie
 
 canonical-requires : tie.Need-canonical-requires
-canonical-requires c κs = search needs
+canonical-requires c κs = tt
 
 enum-known-i : tie.Need-enum-known-i
-enum-known-i c = search needs
+enum-known-i c = c .match .keys1
 
 enum-told : tie.Need-enum-told
-enum-told c = search needs
+enum-told c = c .match .keys2
 
 returns : tie.Need-returns
 returns c =
