@@ -3,8 +3,8 @@ use crate::hardware::bits64;
 use crate::intervals::interval;
 use crate::narrowings::all_floats;
 use crate::narrowings::one;
-use crate::print::put_number;
 use crate::print::put_pattern;
+use crate::print::put_refused;
 use crate::print::put_text;
 use crate::print::put_verdict;
 use arith::floats::FloatAnswer;
@@ -12,55 +12,46 @@ use arith::floats::Floats;
 use arith::floats::narrow_floats;
 use arith::interval::Interval;
 
-// The floats of an interval by their patterns: how many, the first and the last.
-struct Value {
-    count: u64,
-    first: u64,
-    last: u64,
-}
-
-// An answer in numbers: refusal 0 stands for three values.
-struct Reply {
-    refusal: u64,
-    x: Value,
-    a: Value,
-    b: Value,
-}
-
-fn none() -> Value {
-    Value {
-        count: 0,
-        first: 0,
-        last: 0,
-    }
-}
-
-fn single(p: u64) -> Value {
-    Value {
-        count: 1,
-        first: p,
-        last: p,
-    }
-}
-
-fn two(first: u64, last: u64) -> Value {
-    Value {
-        count: 2,
-        first,
-        last,
-    }
-}
-
-fn value_of(f: Floats) -> Value {
+// Whether the floats are an interval's ends: one where these agree, two otherwise, and none where they are crossed.
+fn stands_for(f: Floats, i: Interval) -> bool {
     match f {
-        Floats::Point(p) => single(bits64(p)),
-        Floats::Span(p, q) => two(bits64(p), bits64(q)),
-        Floats::None => none(),
+        Floats::Point(p) => (bits64(p) == i.low) & (i.low == i.high),
+        Floats::Span(p, q) => (bits64(p) == i.low) & (bits64(q) == i.high) & (i.low != i.high),
+        Floats::None => (i.low == 1) & (i.high == 0),
     }
 }
 
-fn values(x: Value, a: Value, b: Value) -> Reply {
-    Reply {
+fn put_value(f: Floats) {
+    match f {
+        Floats::Point(p) => put_pattern(64, bits64(p)),
+        Floats::Span(p, q) => {
+            put_pattern(64, bits64(p));
+            put_text(b" to");
+            put_pattern(64, bits64(q));
+        }
+        Floats::None => put_text(b" none"),
+    }
+}
+
+fn put_values(x: Floats, a: Floats, b: Floats) {
+    put_text(b" x");
+    put_value(x);
+    put_text(b", a");
+    put_value(a);
+    put_text(b", b");
+    put_value(b);
+}
+
+// What is expected: a refusal; or, for 0, the intervals of x, a and b.
+struct Expected {
+    refusal: u64,
+    x: Interval,
+    a: Interval,
+    b: Interval,
+}
+
+fn values(x: Interval, a: Interval, b: Interval) -> Expected {
+    Expected {
         refusal: 0,
         x,
         a,
@@ -68,107 +59,56 @@ fn values(x: Value, a: Value, b: Value) -> Reply {
     }
 }
 
-fn refused(refusal: u64) -> Reply {
-    Reply {
+fn refused(refusal: u64) -> Expected {
+    let none = interval(1, 0);
+    Expected {
         refusal,
-        x: none(),
-        a: none(),
-        b: none(),
+        x: none,
+        a: none,
+        b: none,
     }
 }
 
-fn reply_of(answer: FloatAnswer) -> Reply {
+// The rest of a line for a narrowing, with the floats by their patterns.
+fn conclude(answer: FloatAnswer, expected: Expected) {
     match answer {
-        FloatAnswer::Values { x, a, b } => values(value_of(x), value_of(a), value_of(b)),
-        FloatAnswer::Refused(r) => refused(r.number),
+        FloatAnswer::Values { x, a, b } => {
+            put_values(x, a, b);
+            let same_x = stands_for(x, expected.x);
+            let same_a = stands_for(a, expected.a);
+            let same_b = stands_for(b, expected.b);
+            put_verdict((expected.refusal == 0) & same_x & same_a & same_b);
+        }
+        FloatAnswer::Refused(r) => {
+            put_refused(r.number);
+            put_verdict(r.number == expected.refusal);
+        }
     }
 }
 
-fn equal_values(v: Value, w: Value) -> bool {
-    if v.count != w.count {
-        return false;
-    }
-    if v.first != w.first {
-        return false;
-    }
-    v.last == w.last
-}
-
-fn equal(r: Reply, s: Reply) -> bool {
-    if r.refusal != s.refusal {
-        return false;
-    }
-    if !equal_values(r.x, s.x) {
-        return false;
-    }
-    if !equal_values(r.a, s.a) {
-        return false;
-    }
-    equal_values(r.b, s.b)
-}
-
-fn put_value(v: Value) {
-    if v.count == 0 {
-        put_text(b" none");
-        return;
-    }
-    put_pattern(64, v.first);
-    if v.count == 2 {
-        put_text(b" to");
-        put_pattern(64, v.last);
-    }
-}
-
-fn put_reply(r: Reply) {
-    if r.refusal != 0 {
-        put_text(b" refused");
-        put_number(r.refusal);
-        return;
-    }
-    put_text(b" x");
-    put_value(r.x);
-    put_text(b", a");
-    put_value(r.a);
-    put_text(b", b");
-    put_value(r.b);
-}
-
-// A line for a narrowing, with the floats by their patterns.
-fn read_floats_of(name: &[u8], x: Interval, a: Interval, b: Interval, expected: Reply) {
-    let got = reply_of(narrow_floats(x, a, b));
+fn read_floats_of(name: &[u8], x: Interval, a: Interval, b: Interval, expected: Expected) {
     put_text(b"floats, ");
     put_text(name);
     put_text(b":");
-    put_reply(got);
-    put_verdict(equal(got, expected));
+    conclude(narrow_floats(x, a, b), expected);
 }
 
 pub(crate) fn read_floats() {
-    let unit = single(0x3FF0000000000000);
-    let small = two(0xBC90000000000000, 0x3CA0000000000000);
-    read_floats_of(
-        b"a = b = 1",
-        all_floats(),
-        one(),
-        one(),
-        values(small, unit, unit),
-    );
+    let all = all_floats();
+    let one = one();
+    let none = interval(1, 0);
+    let small = interval(0xBC90000000000000, 0x3CA0000000000000);
     let large = interval(0x4340000000000000, 0x4350000000000000);
     let minus_large = interval(0xC350000000000000, 0xC340000000000000);
+    let infinite = interval(0, 0x7FF0000000000000);
+    read_floats_of(b"a = b = 1", all, one, one, values(small, one, one));
     read_floats_of(
         b"every sum even",
         large,
         minus_large,
-        one(),
-        values(none(), none(), none()),
+        one,
+        values(none, none, none),
     );
-    let crossed = interval(1, 0);
-    read_floats_of(
-        b"an infinite end",
-        crossed,
-        one(),
-        interval(0, 0x7FF0000000000000),
-        refused(2),
-    );
-    read_floats_of(b"a crossed interval", one(), one(), crossed, refused(3));
+    read_floats_of(b"an infinite end", none, one, infinite, refused(2));
+    read_floats_of(b"a crossed interval", one, one, none, refused(3));
 }

@@ -1,6 +1,7 @@
 // Cut, shift, mirror and canonical patterns of intervals, with each refusal and its order.
 use crate::print::put_number;
 use crate::print::put_pattern;
+use crate::print::put_refused;
 use crate::print::put_text;
 use crate::print::put_verdict;
 use arith::interval::Cut;
@@ -66,25 +67,13 @@ fn image_reply(answer: Image) -> Reply {
 }
 
 fn equal(r: Reply, s: Reply) -> bool {
-    if r.refusal != s.refusal {
-        return false;
-    }
-    if r.place != s.place {
-        return false;
-    }
-    if r.empty != s.empty {
-        return false;
-    }
-    if r.low != s.low {
-        return false;
-    }
-    r.high == s.high
+    let refusals = (r.refusal == s.refusal) & (r.place == s.place);
+    refusals & (r.empty == s.empty) & (r.low == s.low) & (r.high == s.high)
 }
 
 fn put_reply(width: u64, r: Reply) {
     if r.refusal != 0 {
-        put_text(b" refused");
-        put_number(r.refusal);
+        put_refused(r.refusal);
         return;
     }
     if r.empty {

@@ -2,6 +2,7 @@
 use crate::intervals::interval;
 use crate::intervals::put_interval;
 use crate::print::put_number;
+use crate::print::put_refused;
 use crate::print::put_text;
 use crate::print::put_verdict;
 use arith::interval::Interval;
@@ -50,26 +51,15 @@ fn reply_of(answer: Narrowed) -> Reply {
 }
 
 pub(crate) fn equal_intervals(i: Interval, j: Interval) -> bool {
-    if i.low != j.low {
-        return false;
-    }
-    i.high == j.high
+    (i.low == j.low) & (i.high == j.high)
 }
 
 fn equal(r: Reply, s: Reply) -> bool {
-    if r.refusal != s.refusal {
-        return false;
-    }
-    if r.place != s.place {
-        return false;
-    }
-    if !equal_intervals(r.x, s.x) {
-        return false;
-    }
-    if !equal_intervals(r.a, s.a) {
-        return false;
-    }
-    equal_intervals(r.b, s.b)
+    let refusals = (r.refusal == s.refusal) & (r.place == s.place);
+    let x = equal_intervals(r.x, s.x);
+    let a = equal_intervals(r.a, s.a);
+    let b = equal_intervals(r.b, s.b);
+    refusals & x & a & b
 }
 
 fn put_intervals(width: u64, x: Interval, a: Interval, b: Interval) {
@@ -80,8 +70,7 @@ fn put_intervals(width: u64, x: Interval, a: Interval, b: Interval) {
 
 fn put_reply(width: u64, r: Reply) {
     if r.refusal != 0 {
-        put_text(b" refused");
-        put_number(r.refusal);
+        put_refused(r.refusal);
         return;
     }
     put_text(b" =");
@@ -114,23 +103,20 @@ pub(crate) fn one() -> Interval {
 
 // 01's narrowings.
 fn read_starred() {
+    let all = all_floats();
+    let one = one();
     let small = interval(0xBC90000000000000, 0x3CA0000000000000);
-    read_narrowing(64, all_floats(), one(), one(), ends(small, one(), one()));
+    read_narrowing(64, all, one, one, ends(small, one, one));
+    let all32 = interval(0xFF7FFFFF, 0x7F7FFFFF);
     let one32 = point(0x3F800000);
     let small32 = interval(0xB3000000, 0x33800000);
-    read_narrowing(
-        32,
-        interval(0xFF7FFFFF, 0x7F7FFFFF),
-        one32,
-        one32,
-        ends(small32, one32, one32),
-    );
+    read_narrowing(32, all32, one32, one32, ends(small32, one32, one32));
     let twos = interval(0x4000000000000000, 0x4000000000000001);
     let minus_ones = interval(0xBFF0000000000002, 0xBFEFFFFFFFFFFFFF);
-    read_narrowing(64, all_floats(), twos, one(), ends(minus_ones, twos, one()));
+    read_narrowing(64, all, twos, one, ends(minus_ones, twos, one));
     let large = interval(0x4340000000000000, 0x4350000000000000);
     let minus_large = interval(0xC350000000000000, 0xC340000000000000);
-    read_narrowing(64, large, minus_large, one(), refused(11));
+    read_narrowing(64, large, minus_large, one, refused(11));
 }
 
 // The sum of 01's listing.
@@ -146,50 +132,35 @@ fn read_listing() {
 // Zero in its one pattern, the largest floats, all floats.
 fn read_extremes() {
     let zero = point(0);
-    read_narrowing(
-        64,
-        point(0x8000000000000000),
-        zero,
-        interval(0x8000000000000000, 1),
-        ends(zero, zero, zero),
-    );
+    let minus_zero = point(0x8000000000000000);
+    let about_zero = interval(0x8000000000000000, 1);
+    read_narrowing(64, minus_zero, zero, about_zero, ends(zero, zero, zero));
+    let all = all_floats();
     let largest = point(0x7FEFFFFFFFFFFFFF);
-    read_narrowing(
-        64,
-        largest,
-        interval(0, 0x7FEFFFFFFFFFFFFF),
-        all_floats(),
-        ends(largest, interval(0, 0x7C8FFFFFFFFFFFFF), largest),
-    );
-    read_narrowing(
-        64,
-        all_floats(),
-        all_floats(),
-        all_floats(),
-        ends(all_floats(), all_floats(), all_floats()),
-    );
+    let positive = interval(0, 0x7FEFFFFFFFFFFFFF);
+    let lost = interval(0, 0x7C8FFFFFFFFFFFFF);
+    read_narrowing(64, largest, positive, all, ends(largest, lost, largest));
+    read_narrowing(64, all, all, all, ends(all, all, all));
 }
 
 // Refusals 1; 2 for each end; 3 for x, a, b.
 fn read_refusals() {
+    let one = one();
     let crossed = interval(0x4000000000000000, 0x3FF0000000000000);
     let infinite = interval(0, 0x7FF0000000000000);
+    let infinite_low = interval(0xFFF0000000000000, 0);
     read_narrowing(48, infinite, crossed, crossed, refused(1));
-    read_narrowing(
-        64,
-        interval(0xFFF0000000000000, 0),
-        crossed,
-        one(),
-        refused(2),
-    );
-    read_narrowing(64, infinite, crossed, one(), refused(2));
-    read_narrowing(64, crossed, infinite, one(), refused(2));
-    read_narrowing(64, crossed, one(), infinite, refused(2));
-    read_narrowing(64, crossed, one(), one(), refused(3));
-    read_narrowing(64, one(), crossed, one(), refused(3));
-    read_narrowing(64, one(), one(), crossed, refused(3));
-    read_narrowing(64, one(), one(), one(), refused(11));
-    read_narrowing(32, one(), one(), one(), refused(2));
+    let second = refused(2);
+    read_narrowing(64, infinite_low, crossed, one, second);
+    read_narrowing(64, infinite, crossed, one, second);
+    read_narrowing(64, crossed, infinite, one, second);
+    read_narrowing(64, crossed, one, infinite, second);
+    let third = refused(3);
+    read_narrowing(64, crossed, one, one, third);
+    read_narrowing(64, one, crossed, one, third);
+    read_narrowing(64, one, one, crossed, third);
+    read_narrowing(64, one, one, one, refused(11));
+    read_narrowing(32, one, one, one, second);
 }
 
 pub(crate) fn read_narrowings() {

@@ -14,12 +14,9 @@ pub(crate) fn put_number(n: u64) {
 
 // A hexadecimal digit, a capital from ten on.
 fn put_digit(n: u64) {
-    let d = n % 16;
-    if d < 10 {
-        put_text(&[48 + d as u8]);
-        return;
-    }
-    put_text(&[55 + d as u8]);
+    let d = (n % 16) as u8;
+    let capital = if d < 10 { 48 + d } else { 55 + d };
+    put_text(&[capital]);
 }
 
 // How many digits a pattern is written with: eight at width 32 if that holds it, else sixteen.
@@ -40,6 +37,12 @@ pub(crate) fn put_pattern(width: u64, p: u64) {
         left -= 1;
         put_digit(p >> (left * 4));
     }
+}
+
+// A refusal by its number.
+pub(crate) fn put_refused(number: u64) {
+    put_text(b" refused");
+    put_number(number);
 }
 
 // The end of a line: whether what it shows is what was expected.

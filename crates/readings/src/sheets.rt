@@ -65,13 +65,7 @@ fn reply_of(outcome: Outcome) -> Reply {
 }
 
 fn equal(r: Reply, s: Reply) -> bool {
-    if r.kind != s.kind {
-        return false;
-    }
-    if r.first != s.first {
-        return false;
-    }
-    r.second == s.second
+    (r.kind == s.kind) & (r.first == s.first) & (r.second == s.second)
 }
 
 fn put_reply(r: Reply) {
@@ -105,39 +99,49 @@ fn four_of(sheet: Sheet) -> Four {
 }
 
 fn equal_cells(f: Four, g: Four) -> bool {
-    if !equal_intervals(f.c0, g.c0) {
-        return false;
-    }
-    if !equal_intervals(f.c1, g.c1) {
-        return false;
-    }
-    if !equal_intervals(f.c2, g.c2) {
-        return false;
-    }
-    equal_intervals(f.c3, g.c3)
+    let c0 = equal_intervals(f.c0, g.c0);
+    let c1 = equal_intervals(f.c1, g.c1);
+    let c2 = equal_intervals(f.c2, g.c2);
+    let c3 = equal_intervals(f.c3, g.c3);
+    c0 & c1 & c2 & c3
 }
 
-fn put_cells(width: u64, f: Four) {
+fn put_cells(f: Four) {
     put_text(b", cells");
-    put_interval(width, f.c0);
-    put_interval(width, f.c1);
-    put_interval(width, f.c2);
-    put_interval(width, f.c3);
+    put_interval(64, f.c0);
+    put_interval(64, f.c1);
+    put_interval(64, f.c2);
+    put_interval(64, f.c3);
 }
 
-// A line for a run: its outcome and the first four cells, and whether they are the ones expected.
-fn read_run(name: &[u8], sheet: Sheet, expected: Reply, cells: Four) {
-    let run = narrow_sheet(sheet);
-    let outcome = run.outcome;
-    let got = reply_of(outcome);
-    let left = run.sheet;
-    let four = four_of(left);
+fn put_name(name: &[u8]) {
     put_text(b"sheet, ");
     put_text(name);
     put_text(b":");
-    put_reply(got);
-    put_cells(left.width, four);
-    put_verdict(equal(got, expected) & equal_cells(four, cells));
+}
+
+// What is read of a run.
+struct Shown {
+    reply: Reply,
+    cells: Four,
+}
+
+fn show_run(sheet: Sheet) -> Shown {
+    let run = narrow_sheet(sheet);
+    let outcome = run.outcome;
+    let left = run.sheet;
+    Shown {
+        reply: reply_of(outcome),
+        cells: four_of(left),
+    }
+}
+
+// A line for a run: its outcome and the first four cells, and whether they are the ones expected.
+fn read_run(name: &[u8], got: Shown, reply: Reply, cells: Four) {
+    put_name(name);
+    put_reply(got.reply);
+    put_cells(got.cells);
+    put_verdict(equal(got.reply, reply) & equal_cells(got.cells, cells));
 }
 
 fn opened(width: u64, limit: u64) -> Sheet {
@@ -164,13 +168,14 @@ fn listed(limit: u64) -> Sheet {
     with_sum(s, 0, 1, 2)
 }
 
-fn listed_narrowed() -> Four {
-    Four {
+fn read_listed(name: &[u8], limit: u64, reply: Reply) {
+    let cells = Four {
         c0: interval(0xC33FFFFFFFFFFFFF, 0xC330000000000000),
         c1: interval(0x4330000000000001, 0x4340000000000000),
         c2: point(0x3FF0000000000000),
         c3: point(0),
-    }
+    };
+    read_run(name, show_run(listed(limit)), reply, cells);
 }
 
 // 01's sheet whose cells 0 and 2 close in on each other by a place a pass.
@@ -184,58 +189,41 @@ fn closing(limit: u64) -> Sheet {
     with_sum(s, 2, 3, 0)
 }
 
-fn closing_cells(low: u64, high: u64) -> Four {
-    Four {
+// A line for it, with cells 0 and 2 from low to high.
+fn read_closing(name: &[u8], limit: u64, reply: Reply, low: u64, high: u64) {
+    let cells = Four {
         c0: interval(low, high),
         c1: point(1),
         c2: interval(low, high),
         c3: point(0),
-    }
+    };
+    read_run(name, show_run(closing(limit)), reply, cells);
+}
+
+// A sheet of one cell, the other zero, which gets its one pattern.
+fn read_no_sums() {
+    let zero = point(0);
+    let cells = Four {
+        c0: zero,
+        c1: zero,
+        c2: zero,
+        c3: zero,
+    };
+    let sheet = with_cell(opened(64, 1), point(0x8000000000000000));
+    read_run(b"no sums", show_run(sheet), settled(1), cells);
 }
 
 fn read_examples() {
-    read_run(
-        b"listing, limit 10",
-        listed(10),
-        settled(2),
-        listed_narrowed(),
-    );
-    read_run(
-        b"listing, limit 1",
-        listed(1),
-        stopped(1),
-        listed_narrowed(),
-    );
-    read_run(
-        b"closing, limit 5",
-        closing(5),
-        stopped(5),
-        closing_cells(5, 5),
-    );
-    read_run(
-        b"closing, limit 6",
-        closing(6),
-        no_triple(6, 0),
-        closing_cells(0, 10),
-    );
-    let zero = with_cell(opened(64, 1), point(0x8000000000000000));
-    let zeros = Four {
-        c0: point(0),
-        c1: point(0),
-        c2: point(0),
-        c3: point(0),
-    };
-    read_run(b"no sums", zero, settled(1), zeros);
+    read_listed(b"listing, limit 10", 10, settled(2));
+    read_listed(b"listing, limit 1", 1, stopped(1));
+    read_closing(b"closing, limit 5", 5, stopped(5), 5, 5);
+    read_closing(b"closing, limit 6", 6, no_triple(6, 0), 0, 10);
+    read_no_sums();
 }
 
 // 01's last trap: each sum of the first pass is cut exactly, and the second sum moves a cell of the first, so nothing is settled.
 fn read_trap() {
-    read_run(
-        b"trap, one exact pass",
-        closing(1),
-        stopped(1),
-        closing_cells(1, 9),
-    );
+    read_closing(b"trap, one exact pass", 1, stopped(1), 1, 9);
 }
 
 // A sheet handed in with the given head and counts, all cells and sums zero.
@@ -268,35 +256,40 @@ fn handed_three(cell: Interval, sum: Record) -> Sheet {
 
 // A line for a refused run: the sheet stays as handed in.
 fn read_refused(name: &[u8], sheet: Sheet, number: u64, place: u64) {
-    read_run(name, sheet, refused(number, place), four_of(sheet));
+    read_run(
+        name,
+        show_run(sheet),
+        refused(number, place),
+        four_of(sheet),
+    );
+}
+
+// The same by the head and the counts.
+fn read_head(name: &[u8], width: u64, limit: u64, cells: u64, sums: u64, number: u64, place: u64) {
+    read_refused(name, handed(width, limit, cells, sums), number, place);
+}
+
+// The same by the last cell of three and the sum.
+fn read_three(name: &[u8], cell: Interval, sum: Record, number: u64, place: u64) {
+    read_refused(name, handed_three(cell, sum), number, place);
 }
 
 // A sheet handed in is tested in the order of lists, with the index as place.
 fn read_handed() {
+    let zero = point(0);
     let good = Record { x: 0, a: 1, b: 2 };
-    read_refused(b"width", handed(48, 0, 65, 0), 1, 0);
-    read_refused(b"limit", handed(64, 65536, 65, 0), 7, 0);
-    read_refused(b"65 cells", handed(64, 1, 65, 129), 10, 64);
-    read_refused(b"129 sums", handed(64, 1, 64, 129), 10, 128);
-    read_refused(
-        b"an infinite cell",
-        handed_three(interval(1, 0x7FF0000000000000), good),
-        2,
-        2,
-    );
-    read_refused(b"a crossed cell", handed_three(interval(1, 0), good), 3, 2);
-    read_refused(
-        b"a sum of a missing cell",
-        handed_three(point(0), Record { x: 3, a: 3, b: 3 }),
-        5,
-        0,
-    );
-    read_refused(
-        b"a sum of a cell twice",
-        handed_three(point(0), Record { x: 0, a: 1, b: 0 }),
-        6,
-        0,
-    );
+    read_head(b"width", 48, 0, 65, 0, 1, 0);
+    read_head(b"limit", 64, 65536, 65, 0, 7, 0);
+    read_head(b"65 cells", 64, 1, 65, 129, 10, 64);
+    read_head(b"129 sums", 64, 1, 64, 129, 10, 128);
+    let infinite = interval(1, 0x7FF0000000000000);
+    let crossed = interval(1, 0);
+    read_three(b"an infinite cell", infinite, good, 2, 2);
+    read_three(b"a crossed cell", crossed, good, 3, 2);
+    let missing = Record { x: 3, a: 3, b: 3 };
+    let twice = Record { x: 0, a: 1, b: 0 };
+    read_three(b"a sum of a missing cell", zero, missing, 5, 0);
+    read_three(b"a sum of a cell twice", zero, twice, 6, 0);
 }
 
 fn answer_reply(answer: Answer) -> Reply {
@@ -309,9 +302,7 @@ fn answer_reply(answer: Answer) -> Reply {
 // A line for a refused call on a sheet, with its number; the place is 0.
 fn read_answer(name: &[u8], answer: Answer, number: u64) {
     let got = answer_reply(answer);
-    put_text(b"sheet, ");
-    put_text(name);
-    put_text(b":");
+    put_name(name);
     put_reply(got);
     put_verdict(equal(got, refused(number, 0)));
 }
@@ -322,14 +313,9 @@ fn read_open(name: &[u8], width: u64, limit: u64, number: u64) {
     read_answer(name, answer, number);
 }
 
-fn read_cell(name: &[u8], sheet: Sheet, cell: Interval, number: u64) {
-    let kept = add_cell(sheet, cell);
-    let answer = kept.answer;
-    read_answer(name, answer, number);
-}
-
-fn read_record(name: &[u8], sheet: Sheet, sum: Record, number: u64) {
-    let kept = add_sum(sheet, sum);
+// A cell added to a sheet of 64 zeros.
+fn read_cell(name: &[u8], cell: Interval, number: u64) {
+    let kept = add_cell(handed(64, 1, 64, 0), cell);
     let answer = kept.answer;
     read_answer(name, answer, number);
 }
@@ -343,37 +329,27 @@ fn full_of_sums() -> Sheet {
     s
 }
 
+// A sum added to that sheet.
+fn read_record(name: &[u8], sum: Record, number: u64) {
+    let kept = add_sum(full_of_sums(), sum);
+    let answer = kept.answer;
+    read_answer(name, answer, number);
+}
+
 // Opening: 1, 7. Adding: 2, 3, 10 and 5, 6, 10.
 fn read_additions() {
-    let full = handed(64, 1, 64, 0);
     read_open(b"open, width 48, limit 0", 48, 0, 1);
     read_open(b"open, limit 0", 32, 0, 7);
-    read_cell(
-        b"add an infinite cell",
-        full,
-        interval(1, 0x7FF0000000000000),
-        2,
-    );
-    read_cell(b"add a crossed cell", full, interval(1, 0), 3);
-    read_cell(b"add a 65th cell", full, point(0), 10);
-    read_record(
-        b"add a sum of a missing cell",
-        full_of_sums(),
-        Record { x: 0, a: 0, b: 3 },
-        5,
-    );
-    read_record(
-        b"add a sum of a cell twice",
-        full_of_sums(),
-        Record { x: 0, a: 0, b: 2 },
-        6,
-    );
-    read_record(
-        b"add a 129th sum",
-        full_of_sums(),
-        Record { x: 0, a: 1, b: 2 },
-        10,
-    );
+    let infinite = interval(1, 0x7FF0000000000000);
+    read_cell(b"add an infinite cell", infinite, 2);
+    read_cell(b"add a crossed cell", interval(1, 0), 3);
+    read_cell(b"add a 65th cell", point(0), 10);
+    let missing = Record { x: 0, a: 0, b: 3 };
+    let twice = Record { x: 0, a: 0, b: 2 };
+    let good = Record { x: 0, a: 1, b: 2 };
+    read_record(b"add a sum of a missing cell", missing, 5);
+    read_record(b"add a sum of a cell twice", twice, 6);
+    read_record(b"add a 129th sum", good, 10);
 }
 
 pub(crate) fn read_sheets() {

@@ -1,6 +1,7 @@
 // 01's forward sums, with their marks and refusals, and one for each place in the order of refusals.
 use crate::print::put_number;
 use crate::print::put_pattern;
+use crate::print::put_refused;
 use crate::print::put_text;
 use crate::print::put_verdict;
 use arith::sum::Sum;
@@ -31,22 +32,13 @@ pub(crate) fn reply_of(answer: Sum) -> Reply {
 }
 
 fn equal(r: Reply, s: Reply) -> bool {
-    if r.refusal != s.refusal {
-        return false;
-    }
-    if r.place != s.place {
-        return false;
-    }
-    if r.pattern != s.pattern {
-        return false;
-    }
-    r.mark == s.mark
+    let refusals = (r.refusal == s.refusal) & (r.place == s.place);
+    refusals & (r.pattern == s.pattern) & (r.mark == s.mark)
 }
 
 fn put_reply(width: u64, r: Reply) {
     if r.refusal != 0 {
-        put_text(b" refused");
-        put_number(r.refusal);
+        put_refused(r.refusal);
         return;
     }
     put_text(b" =");

@@ -11,9 +11,10 @@ use crate::print::put_text;
 // b - a is no end of x: here it is 2^-52, and x runs from just above 2^-53 to just below 3 * 2^-53.
 fn read_difference() {
     put_text(b"trap, rounded difference: ");
+    let one = one();
     let above = point(0x3FF0000000000001);
     let x = interval(0x3CA0000000000001, 0x3CB7FFFFFFFFFFFF);
-    read_narrowing(64, all_floats(), one(), above, ends(x, one(), above));
+    read_narrowing(64, all_floats(), one, above, ends(x, one, above));
 }
 
 // The sums run from -2^53 to 2^53, and b lies between; but every sum is even, and b is 3.
@@ -33,19 +34,15 @@ fn read_between() {
 
 // Below 2 the floats are twice as dense as above, so x reaches half as far down as up.
 fn read_density() {
+    let all = all_floats();
     put_text(b"trap, density at a power of two: ");
     let two = point(0x4000000000000000);
-    read_narrowing(
-        64,
-        all_floats(),
-        two,
-        two,
-        ends(interval(0xBCA0000000000000, 0x3CB0000000000000), two, two),
-    );
+    let about_zero = interval(0xBCA0000000000000, 0x3CB0000000000000);
+    read_narrowing(64, all, two, two, ends(about_zero, two, two));
     put_text(b"trap, density below a power of two: ");
     let below = point(0x3FFFFFFFFFFFFFFF);
-    let x = interval(0xBC9FFFFFFFFFFFFF, 0x3C9FFFFFFFFFFFFF);
-    read_narrowing(64, all_floats(), below, below, ends(x, below, below));
+    let nearer = interval(0xBC9FFFFFFFFFFFFF, 0x3C9FFFFFFFFFFFFF);
+    read_narrowing(64, all, below, below, ends(nearer, below, below));
 }
 
 pub(crate) fn read_traps() {

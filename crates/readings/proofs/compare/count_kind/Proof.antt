@@ -1,7 +1,6 @@
 -- `readings::compare::count_kind` is safe and ends with its count. Assumes nothing.
 use Prim.Native.Nat.{_≤_, _-_}
 use native.Mathlib.Omega.{arith}
-use borrow.Author.Needs.{needs}
 use Rattle.readings.proofs.compare.count_kind.Statement.{statement}
 use Rattle.readings.proofs.compare.count_kind.Tie as tie
 
@@ -12,25 +11,25 @@ abbrev μ-loop : tie.MeasureT-loop
 μ-loop width kind t₀ s₀ i₀ t s i = 150000 - i
 
 nothing-yet-requires : tie.Need-nothing-yet-requires Inv-loop μ-loop
-nothing-yet-requires c κs = search needs
+nothing-yet-requires c κs = tt
 
 loop-holds : tie.Need-loop-holds Inv-loop μ-loop
 loop-holds c = omega arith
 
 next-word-requires : tie.Need-next-word-requires Inv-loop μ-loop
-next-word-requires c κs = search needs
+next-word-requires c κs = tt
 
 next-word-requires-2 : tie.Need-next-word-requires-2 Inv-loop μ-loop
-next-word-requires-2 c κs = search needs
+next-word-requires-2 c κs = tt
 
 pair-of-requires : tie.Need-pair-of-requires Inv-loop μ-loop
-pair-of-requires c κs = search needs
+pair-of-requires c κs = tt
 
 either-order-requires : tie.Need-either-order-requires Inv-loop μ-loop
-either-order-requires c κs = search needs
+either-order-requires c κs = tt
 
 count-pair-requires : tie.Need-count-pair-requires Inv-loop μ-loop
-count-pair-requires c κs = search needs
+count-pair-requires c κs = tt
 
 add-i : tie.Need-add-i Inv-loop μ-loop
 add-i c = omega arith
@@ -42,7 +41,7 @@ loop-again : tie.Need-loop-again Inv-loop μ-loop
 loop-again c = omega arith
 
 returns : tie.Need-returns Inv-loop μ-loop
-returns c = search needs
+returns c = tt
 
 pub count-kind-spec : {M : Type 1} → statement M
 count-kind-spec =

@@ -1,5 +1,4 @@
 -- `readings::hardware::float32` is safe: a finite pattern is no NaN's. Assumes nothing.
-use borrow.Author.Needs.{needs}
 use native.Mathlib.Omega.{arith}
 use lib.Ieee.{binary32}
 use Rattle.readings.proofs.Nan.{finite-no-nan}
@@ -10,10 +9,10 @@ float-from-bits-result : tie.Need-float-from-bits-result
 float-from-bits-result c = finite-no-nan binary32 _ (omega arith)
 
 returns : tie.Need-returns
-returns c = search needs
+returns c = tt
 
 returns-2 : tie.Need-returns-2
-returns-2 c = search needs
+returns-2 c = tt
 
 pub float32-spec : {M : Type 1} → statement M
 float32-spec = tie.close (tie.spec float-from-bits-result returns returns-2)
