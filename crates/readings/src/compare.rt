@@ -149,16 +149,25 @@ fn compare_kind(before: Tally, width: u64, kind: u64, name: &[u8]) -> Tally {
     plus(before, t)
 }
 
-// A line for each kind of pairs of a width, and one for all of them.
-pub(crate) fn compare_width(width: u64) {
-    let t = compare_kind(nothing_yet(), width, 0, b"any two");
+// A line for each kind of pairs that lie anywhere.
+fn compare_spread(before: Tally, width: u64) -> Tally {
+    let t = compare_kind(before, width, 0, b"any two");
     let t = compare_kind(t, width, 1, b"near sizes");
     let t = compare_kind(t, width, 2, b"opposite signs");
-    let t = compare_kind(t, width, 3, b"equal sizes");
-    let t = compare_kind(t, width, 4, b"powers of two");
+    compare_kind(t, width, 3, b"equal sizes")
+}
+
+// A line for each kind at a power of two, at a tie or at an end of the range.
+fn compare_edges(before: Tally, width: u64) -> Tally {
+    let t = compare_kind(before, width, 4, b"powers of two");
     let t = compare_kind(t, width, 5, b"ties");
     let t = compare_kind(t, width, 6, b"ties at powers of two");
     let t = compare_kind(t, width, 7, b"subnormal");
-    let t = compare_kind(t, width, 8, b"largest");
-    put_tally(width, b"all kinds", t);
+    compare_kind(t, width, 8, b"largest")
+}
+
+// The lines of a width, and one for all of its pairs.
+pub(crate) fn compare_width(width: u64) {
+    let t = compare_spread(nothing_yet(), width);
+    put_tally(width, b"all kinds", compare_edges(t, width));
 }

@@ -3,6 +3,7 @@ use crate::hardware::bits64;
 use crate::intervals::interval;
 use crate::narrowings::all_floats;
 use crate::narrowings::one;
+use crate::narrowings::put_intervals;
 use crate::print::put_pattern;
 use crate::print::put_refused;
 use crate::print::put_text;
@@ -34,7 +35,7 @@ fn put_value(f: Floats) {
 }
 
 fn put_values(x: Floats, a: Floats, b: Floats) {
-    put_text(b" x");
+    put_text(b" = x");
     put_value(x);
     put_text(b", a");
     put_value(a);
@@ -86,13 +87,13 @@ fn conclude(answer: FloatAnswer, expected: Expected) {
     }
 }
 
-fn read_floats_of(name: &[u8], x: Interval, a: Interval, b: Interval, expected: Expected) {
-    put_text(b"floats, ");
-    put_text(name);
-    put_text(b":");
+fn read_floats_of(x: Interval, a: Interval, b: Interval, expected: Expected) {
+    put_text(b"floats");
+    put_intervals(64, x, a, b);
     conclude(narrow_floats(x, a, b), expected);
 }
 
+// 01's first narrowing, one with no triple, an infinite end before a crossed interval, and that interval.
 pub(crate) fn read_floats() {
     let all = all_floats();
     let one = one();
@@ -101,14 +102,8 @@ pub(crate) fn read_floats() {
     let large = interval(0x4340000000000000, 0x4350000000000000);
     let minus_large = interval(0xC350000000000000, 0xC340000000000000);
     let infinite = interval(0, 0x7FF0000000000000);
-    read_floats_of(b"a = b = 1", all, one, one, values(small, one, one));
-    read_floats_of(
-        b"every sum even",
-        large,
-        minus_large,
-        one,
-        values(none, none, none),
-    );
-    read_floats_of(b"an infinite end", none, one, infinite, refused(2));
-    read_floats_of(b"a crossed interval", one, one, none, refused(3));
+    read_floats_of(all, one, one, values(small, one, one));
+    read_floats_of(large, minus_large, one, values(none, none, none));
+    read_floats_of(none, one, infinite, refused(2));
+    read_floats_of(one, one, none, refused(3));
 }

@@ -62,7 +62,7 @@ fn equal(r: Reply, s: Reply) -> bool {
     refusals & x & a & b
 }
 
-fn put_intervals(width: u64, x: Interval, a: Interval, b: Interval) {
+pub(crate) fn put_intervals(width: u64, x: Interval, a: Interval, b: Interval) {
     put_interval(width, x);
     put_interval(width, a);
     put_interval(width, b);

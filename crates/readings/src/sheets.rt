@@ -71,10 +71,10 @@ fn equal(r: Reply, s: Reply) -> bool {
 fn put_reply(r: Reply) {
     let kind = r.kind;
     match kind {
-        1 => put_text(b" settled"),
-        2 => put_text(b" stopped"),
-        3 => put_text(b" none"),
-        _ => put_text(b" refused"),
+        1 => put_text(b": settled"),
+        2 => put_text(b": stopped"),
+        3 => put_text(b": none"),
+        _ => put_text(b": refused"),
     }
     put_number(r.first);
     put_number(r.second);
@@ -114,12 +114,6 @@ fn put_cells(f: Four) {
     put_interval(64, f.c3);
 }
 
-fn put_name(name: &[u8]) {
-    put_text(b"sheet, ");
-    put_text(name);
-    put_text(b":");
-}
-
 // What is read of a run.
 struct Shown {
     reply: Reply,
@@ -136,9 +130,8 @@ fn show_run(sheet: Sheet) -> Shown {
     }
 }
 
-// A line for a run: its outcome and the first four cells, and whether they are the ones expected.
-fn read_run(name: &[u8], got: Shown, reply: Reply, cells: Four) {
-    put_name(name);
+// The rest of a line for a run: its outcome and the first four cells, and whether they are the ones expected.
+fn conclude(got: Shown, reply: Reply, cells: Four) {
     put_reply(got.reply);
     put_cells(got.cells);
     put_verdict(equal(got.reply, reply) & equal_cells(got.cells, cells));
@@ -168,14 +161,16 @@ fn listed(limit: u64) -> Sheet {
     with_sum(s, 0, 1, 2)
 }
 
-fn read_listed(name: &[u8], limit: u64, reply: Reply) {
+fn read_listed(limit: u64, reply: Reply) {
+    put_text(b"sheet, listing, limit");
+    put_number(limit);
     let cells = Four {
         c0: interval(0xC33FFFFFFFFFFFFF, 0xC330000000000000),
         c1: interval(0x4330000000000001, 0x4340000000000000),
         c2: point(0x3FF0000000000000),
         c3: point(0),
     };
-    read_run(name, show_run(listed(limit)), reply, cells);
+    conclude(show_run(listed(limit)), reply, cells);
 }
 
 // 01's sheet whose cells 0 and 2 close in on each other by a place a pass.
@@ -190,18 +185,21 @@ fn closing(limit: u64) -> Sheet {
 }
 
 // A line for it, with cells 0 and 2 from low to high.
-fn read_closing(name: &[u8], limit: u64, reply: Reply, low: u64, high: u64) {
+fn read_closing(limit: u64, reply: Reply, low: u64, high: u64) {
+    put_text(b"sheet, closing, limit");
+    put_number(limit);
     let cells = Four {
         c0: interval(low, high),
         c1: point(1),
         c2: interval(low, high),
         c3: point(0),
     };
-    read_run(name, show_run(closing(limit)), reply, cells);
+    conclude(show_run(closing(limit)), reply, cells);
 }
 
 // A sheet of one cell, the other zero, which gets its one pattern.
 fn read_no_sums() {
+    put_text(b"sheet, no sums");
     let zero = point(0);
     let cells = Four {
         c0: zero,
@@ -210,20 +208,20 @@ fn read_no_sums() {
         c3: zero,
     };
     let sheet = with_cell(opened(64, 1), point(0x8000000000000000));
-    read_run(b"no sums", show_run(sheet), settled(1), cells);
+    conclude(show_run(sheet), settled(1), cells);
 }
 
 fn read_examples() {
-    read_listed(b"listing, limit 10", 10, settled(2));
-    read_listed(b"listing, limit 1", 1, stopped(1));
-    read_closing(b"closing, limit 5", 5, stopped(5), 5, 5);
-    read_closing(b"closing, limit 6", 6, no_triple(6, 0), 0, 10);
+    read_listed(10, settled(2));
+    read_listed(1, stopped(1));
+    read_closing(5, stopped(5), 5, 5);
+    read_closing(6, no_triple(6, 0), 0, 10);
     read_no_sums();
 }
 
 // 01's last trap: each sum of the first pass is cut exactly, and the second sum moves a cell of the first, so nothing is settled.
 fn read_trap() {
-    read_closing(b"trap, one exact pass", 1, stopped(1), 1, 9);
+    read_closing(1, stopped(1), 1, 9);
 }
 
 // A sheet handed in with the given head and counts, all cells and sums zero.
@@ -254,42 +252,48 @@ fn handed_three(cell: Interval, sum: Record) -> Sheet {
     s
 }
 
-// A line for a refused run: the sheet stays as handed in.
-fn read_refused(name: &[u8], sheet: Sheet, number: u64, place: u64) {
-    read_run(
-        name,
-        show_run(sheet),
-        refused(number, place),
-        four_of(sheet),
-    );
+// The rest of a line for a refused run: the sheet stays as handed in.
+fn read_refused(sheet: Sheet, number: u64, place: u64) {
+    conclude(show_run(sheet), refused(number, place), four_of(sheet));
 }
 
-// The same by the head and the counts.
-fn read_head(name: &[u8], width: u64, limit: u64, cells: u64, sums: u64, number: u64, place: u64) {
-    read_refused(name, handed(width, limit, cells, sums), number, place);
+fn read_head(width: u64, limit: u64, cells: u64, sums: u64, number: u64, place: u64) {
+    put_text(b"sheet, head");
+    put_number(width);
+    put_number(limit);
+    put_text(b", counts");
+    put_number(cells);
+    put_number(sums);
+    read_refused(handed(width, limit, cells, sums), number, place);
 }
 
-// The same by the last cell of three and the sum.
-fn read_three(name: &[u8], cell: Interval, sum: Record, number: u64, place: u64) {
-    read_refused(name, handed_three(cell, sum), number, place);
+// The last cell of three.
+fn read_last(low: u64, high: u64, number: u64) {
+    let cell = interval(low, high);
+    put_text(b"sheet, cell 2");
+    put_interval(64, cell);
+    read_refused(handed_three(cell, Record { x: 0, a: 1, b: 2 }), number, 2);
+}
+
+// The only sum over three cells.
+fn read_only(x: u64, a: u64, b: u64, number: u64) {
+    put_text(b"sheet, sum 0");
+    put_number(x);
+    put_number(a);
+    put_number(b);
+    read_refused(handed_three(point(0), Record { x, a, b }), number, 0);
 }
 
 // A sheet handed in is tested in the order of lists, with the index as place.
 fn read_handed() {
-    let zero = point(0);
-    let good = Record { x: 0, a: 1, b: 2 };
-    read_head(b"width", 48, 0, 65, 0, 1, 0);
-    read_head(b"limit", 64, 65536, 65, 0, 7, 0);
-    read_head(b"65 cells", 64, 1, 65, 129, 10, 64);
-    read_head(b"129 sums", 64, 1, 64, 129, 10, 128);
-    let infinite = interval(1, 0x7FF0000000000000);
-    let crossed = interval(1, 0);
-    read_three(b"an infinite cell", infinite, good, 2, 2);
-    read_three(b"a crossed cell", crossed, good, 3, 2);
-    let missing = Record { x: 3, a: 3, b: 3 };
-    let twice = Record { x: 0, a: 1, b: 0 };
-    read_three(b"a sum of a missing cell", zero, missing, 5, 0);
-    read_three(b"a sum of a cell twice", zero, twice, 6, 0);
+    read_head(48, 0, 65, 0, 1, 0);
+    read_head(64, 65536, 65, 0, 7, 0);
+    read_head(64, 1, 65, 129, 10, 64);
+    read_head(64, 1, 64, 129, 10, 128);
+    read_last(1, 0x7FF0000000000000, 2);
+    read_last(1, 0, 3);
+    read_only(3, 3, 3, 5);
+    read_only(0, 1, 0, 6);
 }
 
 fn answer_reply(answer: Answer) -> Reply {
@@ -299,25 +303,30 @@ fn answer_reply(answer: Answer) -> Reply {
     }
 }
 
-// A line for a refused call on a sheet, with its number; the place is 0.
-fn read_answer(name: &[u8], answer: Answer, number: u64) {
+// The rest of a line for a refused call on a sheet, with its number; the place is 0.
+fn read_answer(answer: Answer, number: u64) {
     let got = answer_reply(answer);
-    put_name(name);
     put_reply(got);
     put_verdict(equal(got, refused(number, 0)));
 }
 
-fn read_open(name: &[u8], width: u64, limit: u64, number: u64) {
+fn read_open(width: u64, limit: u64, number: u64) {
+    put_text(b"sheet, open");
+    put_number(width);
+    put_number(limit);
     let kept = open(width, limit);
     let answer = kept.answer;
-    read_answer(name, answer, number);
+    read_answer(answer, number);
 }
 
 // A cell added to a sheet of 64 zeros.
-fn read_cell(name: &[u8], cell: Interval, number: u64) {
+fn read_cell(low: u64, high: u64, number: u64) {
+    let cell = interval(low, high);
+    put_text(b"sheet, add cell");
+    put_interval(64, cell);
     let kept = add_cell(handed(64, 1, 64, 0), cell);
     let answer = kept.answer;
-    read_answer(name, answer, number);
+    read_answer(answer, number);
 }
 
 // A sheet of 128 sums over three zeros.
@@ -330,26 +339,26 @@ fn full_of_sums() -> Sheet {
 }
 
 // A sum added to that sheet.
-fn read_record(name: &[u8], sum: Record, number: u64) {
-    let kept = add_sum(full_of_sums(), sum);
+fn read_sum(x: u64, a: u64, b: u64, number: u64) {
+    put_text(b"sheet, add sum");
+    put_number(x);
+    put_number(a);
+    put_number(b);
+    let kept = add_sum(full_of_sums(), Record { x, a, b });
     let answer = kept.answer;
-    read_answer(name, answer, number);
+    read_answer(answer, number);
 }
 
 // Opening: 1, 7. Adding: 2, 3, 10 and 5, 6, 10.
 fn read_additions() {
-    read_open(b"open, width 48, limit 0", 48, 0, 1);
-    read_open(b"open, limit 0", 32, 0, 7);
-    let infinite = interval(1, 0x7FF0000000000000);
-    read_cell(b"add an infinite cell", infinite, 2);
-    read_cell(b"add a crossed cell", interval(1, 0), 3);
-    read_cell(b"add a 65th cell", point(0), 10);
-    let missing = Record { x: 0, a: 0, b: 3 };
-    let twice = Record { x: 0, a: 0, b: 2 };
-    let good = Record { x: 0, a: 1, b: 2 };
-    read_record(b"add a sum of a missing cell", missing, 5);
-    read_record(b"add a sum of a cell twice", twice, 6);
-    read_record(b"add a 129th sum", good, 10);
+    read_open(48, 0, 1);
+    read_open(32, 0, 7);
+    read_cell(1, 0x7FF0000000000000, 2);
+    read_cell(1, 0, 3);
+    read_cell(0, 0, 10);
+    read_sum(0, 0, 3, 5);
+    read_sum(0, 0, 2, 6);
+    read_sum(0, 1, 2, 10);
 }
 
 pub(crate) fn read_sheets() {
