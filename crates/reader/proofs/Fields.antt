@@ -1,12 +1,12 @@
--- Fields that hold none of a byte, and what stands before and after that byte. Rests on specs/Bytes and Numerals.
+-- Fields that hold none of a byte, what stands before and after that byte, and how often it occurs. Rests on specs/Bytes and Numerals.
 use mathlib.Core.Path.{_≡_, refl, ap}
 use mathlib.Core.List.{List, [], _∷_, _++_}
-use Prim.Native.Nat.{ℕ, zero, suc, _/_, _%_, _<_}
+use Prim.Native.Nat.{ℕ, zero, suc, _+_, _/_, _%_, _<_}
 use native.Mathlib.Omega.{arith}
 use borrow.Author.Tests.{eq-eqb, ne-eqb}
 use lib.ListN.{length}
 use lib.Seq.{take-append-seam, drop-append-add}
-use Rattle.reader.specs.Bytes.{indexOf, before, after}
+use Rattle.reader.specs.Bytes.{indexOf, before, after, countOf}
 use Rattle.reader.specs.Digits.{digitByte, digitsOf, digitCount, decimalOf, hexOf}
 use Rattle.reader.specs.Numbers.{digitsFor}
 use Rattle.reader.proofs.Numerals.{digit-high}
@@ -34,6 +34,11 @@ module _ (b : ℕ) where
   pub after-free : (xs ys : List ℕ) → Free b xs → after b (xs ++ (b ∷ ys)) ≡ ys
   unfolding after
   after-free xs ys f = rw (index-free xs ys f) (drop-append-add xs (b ∷ ys) 1)
+
+  pub count-free : (xs ys : List ℕ) → Free b xs → countOf b (xs ++ (b ∷ ys)) ≡ countOf b ys + 1
+  unfolding countOf
+  count-free [] ys f = rw (eq-eqb b b refl) (omega arith)
+  count-free (x ∷ xs) ys f = rw (ne-eqb x b (f .0)) (count-free xs ys (f .1))
 
   -- ---- digits
   pub digits-free : (base k n : ℕ) → b < 48 → Free b (digitsOf base k n)

@@ -12,7 +12,7 @@ use Rattle.reader.specs.Readings.{followed, readFrom, readOf, refusedTex
 use Rattle.reader.specs.declared.cursor.Cursor.{Cursor}
 use Rattle.reader.specs.declared.cursor.Step.{Step}
 use Rattle.reader.specs.declared.cursor.Step.the-variants.{Head, Cell, Sum, End, Refused}
-use Rattle.reader.proofs.Moving.{Given, a-head, a-cell, a-sum, the-end, a-refusal, given}
+use Rattle.reader.proofs.Moving.{Given, a-head, a-cell, a-sum, the-end, too-long, a-refusal, given}
 
 -- the whole text gives what reading on from c with the sheet s gives, and there are steps enough to reach the end
 pub record Reading (text : List ℕ) (c : Cursor) (s : Sheet) : Type 0 where
@@ -41,12 +41,13 @@ module _ (text : List ℕ) (c : Cursor) (n : ℕ) (h : length text - c .at < suc
   onward : (d : Cursor) (s : Sheet) → c .at < d .at → d .at ≤ length text → readOf text ≡ readFrom n text d s → Onward text c d s
   onward d s p q e = record { less = omega arith; reading = record { left = n; enough = omega arith; same = e } }
 
-  step-follows : (s : Sheet) (t : Step) → Given (length text) c t → readOf text ≡ followed (readFrom n text) s t → Follows text c s t
+  step-follows : (s : Sheet) (t : Step) → Given text c t → readOf text ≡ followed (readFrom n text) s t → Follows text c s t
   step-follows s (Head w m d) (a-head z f o) e = onward d (openOf w m .sheet) (o .past) (o .within) e
   step-follows s (Cell I d) (a-cell p f l o) e = onward d (addCellOf s I .sheet) (o .past) (o .within) e
   step-follows s (Sum t d) (a-sum p f l o) e = onward d (addSumOf s t .sheet) (o .past) (o .within) e
   step-follows s End (the-end p) e = e
-  step-follows s (Refused r) a-refusal e = e
+  step-follows s (Refused r) (too-long l) e = e
+  step-follows s (Refused r) (a-refusal n) e = e
 
 read-follows : (text : List ℕ) (c : Cursor) (s : Sheet) (n : ℕ) → length text - c .at < n → readOf text ≡ readFrom n text c s → Follows text c s (nextOf text c)
 unfolding readFrom

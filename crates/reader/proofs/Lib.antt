@@ -1,5 +1,6 @@
 pub mod Searching
 pub mod Digits
+pub mod Counting
 pub mod Moving
 pub mod Following
 pub mod Numerals
@@ -10,4 +11,5 @@ pub mod Walking
 pub mod RoundTrip
 pub mod Tested
 pub mod Staying
+pub mod Placing
 pub mod Held

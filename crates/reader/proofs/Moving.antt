@@ -1,27 +1,27 @@
--- What holds of a step: a head stands at the start and only there, a record that is given has no fault and moves the cursor past its line, and the cursor keeps the width and the counts. Rests on specs/Steps.
-use mathlib.Core.Path.{_≡_, refl}
+-- What holds of a step: a head stands at the start and only there, a record that is given has no fault and moves the cursor past its line, and the cursor keeps the line, the width and the counts. Rests on specs/Steps and Counting.
+use mathlib.Core.Path.{_≡_, refl, sym, ap, _∙_}
 use mathlib.Core.Bool.{Bool, true, false, cond}
 use mathlib.Core.List.{List}
 use Prim.Native.Nat.{ℕ, _+_, _<_, _≤_}
 use native.Mathlib.Omega.{arith}
 use lib.Dec.{eqb, ltb, leb}
 use lib.ListN.{length, drop, length-drop}
-use borrow.Author.Tests.{eqb-true, eqb-false, ltb-true, leb-false}
+use borrow.Author.Tests.{eqb-true, eqb-false, ltb-true, ltb-false, leb-false}
 use Rattle.arith.specs.declared.interval.Interval.{Interval}
-use Rattle.arith.specs.declared.refusal.Refusal.{Refusal}
 use Rattle.sheet.specs.declared.kept.Record.{Record}
 use Rattle.sheet.specs.Faults.{headFault, cellFault, sumFault}
 use Rattle.reader.specs.Bytes.{indexOf, before, after, isSame}
 use Rattle.reader.specs.Numbers.{numeralOf, patternOf}
 use Rattle.reader.specs.Lines.{tab, feed, sheetWord, cellWord, sumWord, headFrom, cellFrom, sumFrom, headIn, cellIn, sumIn, lineOf}
-use Rattle.reader.specs.Steps.{headStep, cellStep, sumStep, admitted, lineNumber, nextOf}
+use Rattle.reader.specs.Steps.{refusedAt, headStep, cellStep, sumStep, admitted, lineAfter, pastLine, nextOf, lineNumber}
 use Rattle.reader.specs.declared.number.Number.{Number}
 use Rattle.reader.specs.declared.number.Number.the-variants as Number
 use Rattle.reader.specs.declared.line.Line.{Line}
 use Rattle.reader.specs.declared.line.Line.the-variants as Line
 use Rattle.reader.specs.declared.cursor.Cursor.{Cursor}
 use Rattle.reader.specs.declared.cursor.Step.{Step}
-use Rattle.reader.specs.declared.cursor.Step.the-variants.{Head, Cell, Sum, End, Refused}
+use Rattle.reader.specs.declared.cursor.Step.the-variants.{Head, Cell, Sum, End}
+use Rattle.reader.proofs.Counting.{line-past}
 
 nonzero : (n : ℕ) → eqb n 0 ≡ false → 0 < n
 nonzero n e = let h = eqb-false n 0 e in omega arith
@@ -69,48 +69,56 @@ module _ (at : ℕ) where
       (λ _. sum-placed (nonzero at e) (numeralOf (before tab fields)) (numeralOf (before tab (after tab fields))) (numeralOf (after tab (after tab fields))))
       (λ _. nowhere)))
 
--- ---- the cursor d that a record at c hands on, in a text of so many bytes: past c, with a width and counts
-pub record Onto (size : ℕ) (c d : Cursor) (w i j : ℕ) : Type 0 where
+-- ---- the cursor keeps the line that it stands in
+abbrev pub Lined : List ℕ → Cursor → Type 0
+Lined text c = c .line ≡ lineNumber text (c .at)
+
+-- the cursor d that a record at c hands on: past c, with a line, a width and counts
+pub record Onto (text : List ℕ) (c d : Cursor) (w i j : ℕ) : Type 0 where
   pub past : c .at < d .at
-  pub within : d .at ≤ size
+  pub within : d .at ≤ length text
+  pub line : Lined text c → Lined text d
   pub width : d .width ≡ w
   pub cells : d .«cell_count» ≡ i
   pub sums : d .«sum_count» ≡ j
 
 -- what holds of a step from c
-pub data Given (size : ℕ) (c : Cursor) : Step → Type 0 where
-  a-head : {w m : ℕ} {d : Cursor} → c .at ≡ 0 → headFault w m ≡ 0 → Onto size c d w 0 0 → Given size c (Head w m d)
-  a-cell : {I : Interval} {d : Cursor} → 0 < c .at → cellFault (c .width) I ≡ 0 → c .«cell_count» < 64 → Onto size c d (c .width) (c .«cell_count» + 1) (c .«sum_count») → Given size c (Cell I d)
-  a-sum : {t : Record} {d : Cursor} → 0 < c .at → sumFault (c .«cell_count») t ≡ 0 → c .«sum_count» < 128 → Onto size c d (c .width) (c .«cell_count») (c .«sum_count» + 1) → Given size c (Sum t d)
-  the-end : 0 < c .at → Given size c End
-  a-refusal : {r : Refusal} → Given size c (Refused r)
+pub data Given (text : List ℕ) (c : Cursor) : Step → Type 0 where
+  a-head : {w m : ℕ} {d : Cursor} → c .at ≡ 0 → headFault w m ≡ 0 → Onto text c d w 0 0 → Given text c (Head w m d)
+  a-cell : {I : Interval} {d : Cursor} → 0 < c .at → cellFault (c .width) I ≡ 0 → c .«cell_count» < 64 → Onto text c d (c .width) (c .«cell_count» + 1) (c .«sum_count») → Given text c (Cell I d)
+  a-sum : {t : Record} {d : Cursor} → 0 < c .at → sumFault (c .«cell_count») t ≡ 0 → c .«sum_count» < 128 → Onto text c d (c .width) (c .«cell_count») (c .«sum_count» + 1) → Given text c (Sum t d)
+  the-end : 0 < c .at → Given text c End
+  too-long : 8192 < length text → Given text c (refusedAt 8 0)
+  a-refusal : (number : ℕ) → Given text c (refusedAt number (c .line))
 
-module _ (size : ℕ) (c : Cursor) where
-  choose : (t : Bool) {a b : Step} → (t ≡ true → Given size c a) → (t ≡ false → Given size c b) → Given size c (cond t a b)
+module _ (text : List ℕ) (c : Cursor) where
+  choose : (t : Bool) {a b : Step} → (t ≡ true → Given text c a) → (t ≡ false → Given text c b) → Given text c (cond t a b)
   choose true p q = p refl
   choose false p q = q refl
 
-  module _ (line next : ℕ) (h : c .at < next) (k : next ≤ size) where
-    line-given : (l : Line) → Placed (c .at) l → Given size c (admitted l line next c)
+  module _ (n : ℕ) (k : c .at + n + 1 ≤ length text) (on : Lined text c → lineAfter (c .line) ≡ lineNumber text (c .at + n + 1)) where
+    abbrev onto : (w i j : ℕ) → Onto text c (record { at = c .at + n + 1; line = lineAfter (c .line); width = w; «cell_count» = i; «sum_count» = j }) w i j
+    onto w i j = record { past = omega arith; within = k; line = on; width = refl; cells = refl; sums = refl }
+
+    line-given : (l : Line) → Placed (c .at) l → Given text c (admitted l (c .line) (pastLine n c))
     unfolding admitted headStep cellStep sumStep
-    line-given (Line.Head w m) (head z) = choose (eqb (headFault w m) 0) (λ e. a-head z (eqb-true (headFault w m) 0 e) (record { past = h; within = k; width = refl; cells = refl; sums = refl })) (λ _. a-refusal)
+    line-given (Line.Head w m) (head z) = choose (eqb (headFault w m) 0) (λ e. a-head z (eqb-true (headFault w m) 0 e) (onto w 0 0)) (λ _. a-refusal (headFault w m))
     line-given (Line.Cell I) (cell p) =
         choose (eqb (cellFault (c .width) I) 0)
-        (λ e. choose (leb 64 (c .«cell_count»)) (λ _. a-refusal) (λ f. a-cell p (eqb-true (cellFault (c .width) I) 0 e) (leb-false 64 (c .«cell_count») f) (record { past = h; within = k; width = refl; cells = refl; sums = refl })))
-        (λ _. a-refusal)
+        (λ e. choose (leb 64 (c .«cell_count»)) (λ _. a-refusal 10) (λ f. a-cell p (eqb-true (cellFault (c .width) I) 0 e) (leb-false 64 (c .«cell_count») f) (onto (c .width) (c .«cell_count» + 1) (c .«sum_count»))))
+        (λ _. a-refusal (cellFault (c .width) I))
     line-given (Line.Sum t) (sum p) =
         choose (eqb (sumFault (c .«cell_count») t) 0)
-        (λ e. choose (leb 128 (c .«sum_count»)) (λ _. a-refusal) (λ f. a-sum p (eqb-true (sumFault (c .«cell_count») t) 0 e) (leb-false 128 (c .«sum_count») f) (record { past = h; within = k; width = refl; cells = refl; sums = refl })))
-        (λ _. a-refusal)
-    line-given Line.Malformed nowhere = a-refusal
+        (λ e. choose (leb 128 (c .«sum_count»)) (λ _. a-refusal 10) (λ f. a-sum p (eqb-true (sumFault (c .«cell_count») t) 0 e) (leb-false 128 (c .«sum_count») f) (onto (c .width) (c .«cell_count») (c .«sum_count» + 1))))
+        (λ _. a-refusal (sumFault (c .«cell_count») t))
+    line-given Line.Malformed nowhere = a-refusal 4
 
-pub given : (text : List ℕ) (c : Cursor) → Given (length text) c (nextOf text c)
+pub given : (text : List ℕ) (c : Cursor) → Given text c (nextOf text c)
 unfolding nextOf
 given text c =
-    let size = length text in
     let rest = drop (c .at) text in
-    let next = c .at + indexOf feed rest + 1 in
-    choose size c (ltb 8192 size) (λ _. a-refusal)
-    (λ _. choose size c (ltb (indexOf feed rest) (length rest))
-    (λ e. let h = ltb-true (indexOf feed rest) (length rest) e in line-given size c (lineNumber text (c .at)) next (omega arith) (omega (arith, length-drop (c .at) text)) (lineOf (c .at) (c .width) (before feed rest)) (placed (c .at) (c .width) (before feed rest)))
-    (λ _. choose size c (eqb (length rest) 0) (λ _. choose size c (eqb (c .at) 0) (λ _. a-refusal) (λ e. the-end (nonzero (c .at) e))) (λ _. a-refusal)))
+    let n = indexOf feed rest in
+    choose text c (ltb 8192 (length text)) (λ e. too-long (ltb-true 8192 (length text) e))
+    (λ s. choose text c (ltb n (length rest))
+    (λ e. let h = ltb-true n (length rest) e in line-given text c n (omega (arith, length-drop (c .at) text)) (λ l. ap lineAfter l ∙ sym (line-past text (c .at) (ltb-false 8192 (length text) s) h)) (lineOf (c .at) (c .width) (before feed rest)) (placed (c .at) (c .width) (before feed rest)))
+    (λ _. choose text c (eqb (length rest) 0) (λ _. choose text c (eqb (c .at) 0) (λ _. a-refusal 4) (λ e. the-end (nonzero (c .at) e))) (λ _. a-refusal 4)))

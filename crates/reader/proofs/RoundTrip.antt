@@ -15,7 +15,7 @@ use Rattle.sheet.specs.declared.kept.Answer.the-variants.{Done}
 use Rattle.sheet.specs.Faults.{headFault, cellFault, sumFault}
 use Rattle.sheet.specs.Sheets.{noCell, noSum, blank, usedCells, usedSums, tidied, testOf}
 use Rattle.sheet.proofs.Answers.{opened, passed}
-use Rattle.reader.specs.Bytes.{indexOf}
+use Rattle.reader.specs.Bytes.{indexOf, countOf}
 use Rattle.reader.specs.Lines.{feed}
 use Rattle.reader.specs.Steps.{start, headStep, cellStep, sumStep, admitted, nextOf}
 use Rattle.reader.specs.Readings.{readFrom, readOf}
@@ -23,7 +23,7 @@ use Rattle.reader.specs.Texts.{headText, cellText, sumText, textLines, t
 use Rattle.reader.specs.declared.cursor.Step.the-variants.{Head, Cell, Sum, End}
 use Rattle.reader.proofs.Building.{Faultless, faultless-list, faultless-front, faultless-next, built, Sound, length-more, add-cell, add-sum}
 use Rattle.reader.proofs.Records.{cell-small, Few, head-back, cell-back, sum-back, head-free, cell-free, sum-free, head-length, cell-length, sum-length}
-use Rattle.reader.proofs.Walking.{after, next-line, length-line, walk}
+use Rattle.reader.proofs.Walking.{after, next-line, walk}
 
 -- ---- what the faults say of numbers
 pub record GoodHead (w m : ℕ) : Type 0 where
@@ -62,22 +62,27 @@ sum-few n t h = go (leb n (t .x)) refl (leb n (t .a)) refl (leb n (t .b)) refl _
         record { x = omega arith; a = omega arith; b = omega arith }
 
 -- ---- the step at each kind of line
+begins : start ≡ after [] 0 0 0
+unfolding countOf
+begins = refl
+
 head-next : (rest : List ℕ) (w m : ℕ) → length (headText w m ++ (feed ∷ rest)) ≤ 8192 → headFault w m ≡ 0 → nextOf (headText w m ++ (feed ∷ rest)) start ≡ Head w m (after (headText w m ++ (feed ∷ [])) w 0 0)
 unfolding admitted headStep
 head-next rest w m h z =
     let g = head-good w m z in
-    rw (next-line [] (headText w m) rest 0 0 0 (head-free w m) h, head-back 0 w m (g .width) (g .limit), eq-eqb (headFault w m) 0 z, length-line [] (headText w m))
+    ap (nextOf (headText w m ++ (feed ∷ rest))) begins
+    ∙ rw (next-line [] (headText w m) rest 0 0 0 (head-free w m) h, head-back 0 w m (g .width) (g .limit), eq-eqb (headFault w m) 0 z)
 
 module _ (text read rest : List ℕ) (w i j : ℕ) (h : length text ≤ 8192) (p : 0 < length read) where
   cell-next : (I : Interval) → text ≡ read ++ (cellText w I ++ (feed ∷ rest)) → cellFault w I ≡ 0 → i < 64 → nextOf text (after read w i j) ≡ Cell I (after (read ++ (cellText w I ++ (feed ∷ []))) w (i + 1) j)
   unfolding admitted cellStep
   cell-next I e z l =
-      rw (e, next-line read (cellText w I) rest w i j (cell-free w I) (rw e at h), cell-back (length read) w I p (cell-small w I z), eq-eqb (cellFault w I) 0 z, lt-leb 64 i l, length-line read (cellText w I))
+      rw (e, next-line read (cellText w I) rest w i j (cell-free w I) (rw e at h), cell-back (length read) w I p (cell-small w I z), eq-eqb (cellFault w I) 0 z, lt-leb 64 i l)
 
   sum-next : (t : Record) → text ≡ read ++ (sumText t ++ (feed ∷ rest)) → Few t → sumFault i t ≡ 0 → j < 128 → nextOf text (after read w i j) ≡ Sum t (after (read ++ (sumText t ++ (feed ∷ []))) w i (j + 1))
   unfolding admitted sumStep
   sum-next t e f z l =
-      rw (e, next-line read (sumText t) rest w i j (sum-free t) (rw e at h), sum-back (length read) w t p f, eq-eqb (sumFault i t) 0 z, lt-leb 128 j l, length-line read (sumText t))
+      rw (e, next-line read (sumText t) rest w i j (sum-free t) (rw e at h), sum-back (length read) w t p f, eq-eqb (sumFault i t) 0 z, lt-leb 128 j l)
 
 end-next : (text : List ℕ) (w i j : ℕ) → length text ≤ 8192 → 0 < length text → nextOf text (after text w i j) ≡ End
 unfolding nextOf indexOf

@@ -1,4 +1,4 @@
--- Laws by which the loops over bytes go: what a search, a count and a comparison give from an index on. Rests on specs/Bytes.
+-- Laws by which the loops over bytes go: what a search and a comparison give from an index on. Rests on specs/Bytes.
 use mathlib.Core.Path.{_≡_, refl, ap}
 use mathlib.Core.Bool.{Bool, true, false, cond}
 use mathlib.Core.List.{List, [], _∷_}
@@ -9,7 +9,7 @@ use lib.Dec.{eqb}
 use lib.ListN.{length, getD, drop, take, drop-of-length-le, length-drop}
 use lib.Seq.{drop-cons, take-all}
 use borrow.Author.Tests.{eq-eqb, ne-eqb}
-use Rattle.reader.specs.Bytes.{indexOf, countOf, isSame}
+use Rattle.reader.specs.Bytes.{indexOf, isSame}
 
 -- what is left of a list at a place before its end
 pub more : (s : List ℕ) (i : ℕ) → i < length s → drop i s ≡ getD s i 0 ∷ drop (i + 1) s
@@ -35,18 +35,6 @@ module _ (b : ℕ) (s : List ℕ) (i : ℕ) where
   pub index-end : length s ≤ i → indexOf b (drop i s) ≡ 0
   unfolding indexOf
   index-end h = rw (none s i h)
-
-  pub count-hit : i < length s → getD s i 0 ≡ b → countOf b (drop i s) ≡ suc (countOf b (drop (i + 1) s))
-  unfolding countOf
-  count-hit h e = rw (more s i h, eq-eqb _ _ e)
-
-  pub count-miss : i < length s → (getD s i 0 ≡ b → ⊥) → countOf b (drop i s) ≡ countOf b (drop (i + 1) s)
-  unfolding countOf
-  count-miss h e = rw (more s i h, ne-eqb _ _ e)
-
-  pub count-end : length s ≤ i → countOf b (drop i s) ≡ 0
-  unfolding countOf
-  count-end h = rw (none s i h)
 
 cond-both : (t : Bool) → cond t false false ≡ false
 cond-both true = refl

@@ -20,7 +20,7 @@ use Rattle.reader.specs.Readings.{followed, readFrom, readOf}
 use Rattle.reader.specs.declared.cursor.Cursor.{Cursor}
 use Rattle.reader.specs.declared.cursor.Step.{Step}
 use Rattle.reader.specs.declared.cursor.Step.the-variants.{Head, Cell, Sum, End, Refused}
-use Rattle.reader.proofs.Moving.{Onto, Given, a-head, a-cell, a-sum, the-end, a-refusal, given}
+use Rattle.reader.proofs.Moving.{Onto, Given, a-head, a-cell, a-sum, the-end, given}
 use Rattle.reader.proofs.Building.{Faultless, faultless-append, built, Sound, length-more, built-passes, add-cell, add-sum}
 
 -- ---- a sum without a fault has none where there is one cell more
@@ -58,8 +58,8 @@ pub record Stands (c : Cursor) (s : Sheet) : Type 0 where
 stood : {c : Cursor} {s : Sheet} → Stands c s → testOf s ≡ Done
 stood {c} k = rw (k .is) (built-passes (c .width) (k .limit) (k .cells) (k .sums) (k .sound))
 
-module _ (size : ℕ) (c d : Cursor) where
-  head-stands : (w m : ℕ) → headFault w m ≡ 0 → Onto size c d w 0 0 → Stands d (openOf w m .sheet)
+module _ (text : List ℕ) (c d : Cursor) where
+  head-stands : (w m : ℕ) → headFault w m ≡ 0 → Onto text c d w 0 0 → Stands d (openOf w m .sheet)
   head-stands w m z o = record {
     limit = m;
     cells = [];
@@ -72,7 +72,7 @@ module _ (size : ℕ) (c d : Cursor) where
   }
 
   module _ (s : Sheet) (k : Stands c s) where
-    cell-stands : (I : Interval) → cellFault (c .width) I ≡ 0 → c .«cell_count» < 64 → Onto size c d (c .width) (c .«cell_count» + 1) (c .«sum_count») → Stands d (addCellOf s I .sheet)
+    cell-stands : (I : Interval) → cellFault (c .width) I ≡ 0 → c .«cell_count» < 64 → Onto text c d (c .width) (c .«cell_count» + 1) (c .«sum_count») → Stands d (addCellOf s I .sheet)
     cell-stands I z l o =
         let g = k .sound in
         let n : length (k .cells) < 64 = omega (arith, k .cell-count) in
@@ -93,7 +93,7 @@ module _ (size : ℕ) (c d : Cursor) where
           later = omega (arith, o .past);
         }
 
-    sum-stands : (t : Record) → sumFault (c .«cell_count») t ≡ 0 → c .«sum_count» < 128 → Onto size c d (c .width) (c .«cell_count») (c .«sum_count» + 1) → Stands d (addSumOf s t .sheet)
+    sum-stands : (t : Record) → sumFault (c .«cell_count») t ≡ 0 → c .«sum_count» < 128 → Onto text c d (c .width) (c .«cell_count») (c .«sum_count» + 1) → Stands d (addSumOf s t .sheet)
     sum-stands t z l o =
         let g = k .sound in
         let n : length (k .sums) < 128 = omega (arith, k .sum-count) in
@@ -120,26 +120,26 @@ Passes : Kept → Type 0
 Passes k = (s : Sheet) → k ≡ record { sheet = s; answer = Done } → testOf s ≡ Done
 
 module _ (text : List ℕ) where
-  step-passes : (n : ℕ) (c : Cursor) (s : Sheet) → Stands c s → ((d : Cursor) (u : Sheet) → Stands d u → Passes (readFrom n text d u)) → (t : Step) → Given (length text) c t → Passes (followed (readFrom n text) s t)
+  step-passes : (n : ℕ) (c : Cursor) (s : Sheet) → Stands c s → ((d : Cursor) (u : Sheet) → Stands d u → Passes (readFrom n text d u)) → (t : Step) → Given text c t → Passes (followed (readFrom n text) s t)
   unfolding Passes
   step-passes n c s k next (Head w m d) (a-head z f o) r h = absurd (omega (arith, k .later))
-  step-passes n c s k next (Cell I d) (a-cell p f l o) r h = next d (addCellOf s I .sheet) (cell-stands (length text) c d s k I f l o) r h
-  step-passes n c s k next (Sum t d) (a-sum p f l o) r h = next d (addSumOf s t .sheet) (sum-stands (length text) c d s k t f l o) r h
+  step-passes n c s k next (Cell I d) (a-cell p f l o) r h = next d (addCellOf s I .sheet) (cell-stands text c d s k I f l o) r h
+  step-passes n c s k next (Sum t d) (a-sum p f l o) r h = next d (addSumOf s t .sheet) (sum-stands text c d s k t f l o) r h
   step-passes n c s k next End (the-end p) r h = let f : s ≡ r = ap (λ (a : Kept). a .sheet) h in rw (sym f) (stood k)
-  step-passes n c s k next (Refused q) a-refusal r h = let e = ap (λ (a : Kept). a .answer) h in absurd (let z : _≡_ {A = ℕ} 0 1 = cc in omega arith)
+  step-passes n c s k next (Refused q) g r h = let e = ap (λ (a : Kept). a .answer) h in absurd (let z : _≡_ {A = ℕ} 0 1 = cc in omega arith)
 
   from-passes : (n : ℕ) (c : Cursor) (s : Sheet) → Stands c s → Passes (readFrom n text c s)
   unfolding Passes readFrom
   from-passes zero c s k r h = let f : s ≡ r = ap (λ (a : Kept). a .sheet) h in rw (sym f) (stood k)
   from-passes (suc n) c s k r h = step-passes n c s k (from-passes n) (nextOf text c) (given text c) r h
 
-  first-passes : (t : Step) → Given (length text) start t → Passes (followed (readFrom (length text) text) (blank 0 0) t)
+  first-passes : (t : Step) → Given text start t → Passes (followed (readFrom (length text) text) (blank 0 0) t)
   unfolding Passes
-  first-passes (Head w m d) (a-head z f o) r h = from-passes (length text) d (openOf w m .sheet) (head-stands (length text) start d w m f o) r h
+  first-passes (Head w m d) (a-head z f o) r h = from-passes (length text) d (openOf w m .sheet) (head-stands text start d w m f o) r h
   first-passes (Cell I d) (a-cell p f l o) r h = absurd (omega arith)
   first-passes (Sum t d) (a-sum p f l o) r h = absurd (omega arith)
   first-passes End (the-end p) r h = absurd (omega arith)
-  first-passes (Refused q) a-refusal r h = let e = ap (λ (a : Kept). a .answer) h in absurd (let z : _≡_ {A = ℕ} 0 1 = cc in omega arith)
+  first-passes (Refused q) g r h = let e = ap (λ (a : Kept). a .answer) h in absurd (let z : _≡_ {A = ℕ} 0 1 = cc in omega arith)
 
   pub read-tested : (s : Sheet) → readOf text ≡ record { sheet = s; answer = Done } → testOf s ≡ Done
   unfolding readOf readFrom Passes

@@ -1,4 +1,4 @@
--- Reading on over lines in the middle of a text: one line, and a line for each member of a list. Rests on specs/Readings and Fields.
+-- Reading on over lines in the middle of a text: one line, and a line for each member of a list. Rests on specs/Readings, Counting and Fields.
 use mathlib.Core.Path.{_≡_, sym, ap, _∙_}
 use mathlib.Core.List.{List, [], _∷_, _++_, append-assoc, append-nil}
 use Prim.Native.Nat.{ℕ, suc, _+_, _≤_, _<_}
@@ -8,30 +8,38 @@ use lib.ListN.{length, length-append}
 use lib.Seq.{drop-append-seam}
 use borrow.Author.Tests.{le-ltb, lt-ltb}
 use Rattle.sheet.specs.declared.kept.Sheet.{Sheet}
+use Rattle.reader.specs.Bytes.{countOf}
 use Rattle.reader.specs.Lines.{feed, lineOf}
-use Rattle.reader.specs.Steps.{admitted, lineNumber, nextOf}
+use Rattle.reader.specs.Steps.{admitted, lineAfter, nextOf}
 use Rattle.reader.specs.Readings.{readFrom}
 use Rattle.reader.specs.Texts.{textLines}
 use Rattle.reader.specs.declared.cursor.Cursor.{Cursor}
-use Rattle.reader.proofs.Fields.{Free, index-free, before-free}
+use Rattle.reader.proofs.Counting.{count-append, count-le, line-on}
+use Rattle.reader.proofs.Fields.{Free, index-free, before-free, count-free}
 
 -- the cursor after some text, with what it keeps
 abbrev pub after : List ℕ → ℕ → ℕ → ℕ → Cursor
-after read w i j = record { at = length read; width = w; «cell_count» = i; «sum_count» = j }
+after read w i j = record { at = length read; line = countOf feed read + 1; width = w; «cell_count» = i; «sum_count» = j }
 
 -- ---- one line
+-- the position after it, and the line
+length-line : (read line : List ℕ) → length (read ++ (line ++ (feed ∷ []))) ≡ length read + length line + 1
+length-line read line = simp (length-append, length-append) (omega arith)
+
+line-line : (read line : List ℕ) → Free feed line → length read ≤ 8192 → countOf feed (read ++ (line ++ (feed ∷ []))) + 1 ≡ lineAfter (countOf feed read + 1)
+unfolding countOf
+line-line read line f h =
+    rw (count-append feed read (line ++ (feed ∷ [])), count-free feed line [] f)
+    (sym (line-on (countOf feed read + 1) (omega (arith, count-le feed read))))
+
 pub next-line :
     (read line rest : List ℕ) (w i j : ℕ) → Free feed line → length (read ++ (line ++ (feed ∷ rest))) ≤ 8192 →
     nextOf (read ++ (line ++ (feed ∷ rest))) (after read w i j)
-    ≡ admitted (lineOf (length read) w line) (lineNumber (read ++ (line ++ (feed ∷ rest))) (length read)) (length read + length line + 1) (after read w i j)
+    ≡ admitted (lineOf (length read) w line) (countOf feed read + 1) (after (read ++ (line ++ (feed ∷ []))) w i j)
 unfolding nextOf
 next-line read line rest w i j f h =
     let l : length line < length (line ++ (feed ∷ rest)) = simp length-append (omega arith) in
-    rw (le-ltb 8192 (length (read ++ (line ++ (feed ∷ rest)))) h, drop-append-seam read (line ++ (feed ∷ rest)), index-free feed line rest f, before-free feed line rest f, lt-ltb (length line) (length (line ++ (feed ∷ rest))) l)
-
--- the position after it
-pub length-line : (read line : List ℕ) → length (read ++ (line ++ (feed ∷ []))) ≡ length read + length line + 1
-length-line read line = simp (length-append, length-append) (omega arith)
+    rw (le-ltb 8192 (length (read ++ (line ++ (feed ∷ rest)))) h, drop-append-seam read (line ++ (feed ∷ rest)), index-free feed line rest f, before-free feed line rest f, lt-ltb (length line) (length (line ++ (feed ∷ rest))) l, length-line read line, line-line read line f (omega (arith, length-append read (line ++ (feed ∷ rest)))))
 
 -- ---- a line for each member of a list: where each line moves the sheet and the cursor on by its member, all of them do
 pub walk :

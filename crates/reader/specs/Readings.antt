@@ -12,7 +12,7 @@ use Rattle.reader.specs.declared.cursor.Cursor.{Cursor}
 use Rattle.reader.specs.declared.cursor.Step.{Step}
 use Rattle.reader.specs.declared.cursor.Step.the-variants.{Head, Cell, Sum, End, Refused}
 
--- a refused text leaves the blank sheet
+-- a refused text leaves the blank sheet; its place is 01's line of the record refused (`refused-line`, proofs/Placing)
 abbrev pub refusedText : Refusal → Kept
 refusedText r = record { sheet = blank 0 0; answer = Answer.Refused r }
 

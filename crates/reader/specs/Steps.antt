@@ -17,7 +17,7 @@ use Rattle.reader.specs.declared.cursor.Step.the-variants.{Head, Cell, S
 
 -- the cursor at the start of a text
 abbrev pub start : Cursor
-start = record { at = 0; width = 0; «cell_count» = 0; «sum_count» = 0 }
+start = record { at = 0; line = 1; width = 0; «cell_count» = 0; «sum_count» = 0 }
 
 -- a refusal, with the line as its place
 abbrev pub refusedAt : ℕ → ℕ → Step
@@ -39,52 +39,56 @@ stepValues (Sum t c) = t .x ∷ t .a ∷ t .b ∷ []
 stepValues End = []
 stepValues (Refused r) = r .place ∷ []
 
--- ---- a record whose line is well formed; `next` is the position after it
+-- ---- a record whose line is well formed; the cursor c stands past the line, with the record not yet counted
 -- a head, in the order of opening: 1, 7. Cells and sums are counted from it on
-unfoldable pub headStep : ℕ → ℕ → ℕ → ℕ → Step
-headStep w m line next =
+unfoldable pub headStep : ℕ → ℕ → ℕ → Cursor → Step
+headStep w m line c =
     cond (eqb (headFault w m) 0)
-    (Head w m (record { at = next; width = w; «cell_count» = 0; «sum_count» = 0 }))
+    (Head w m (record { at = c .at; line = c .line; width = w; «cell_count» = 0; «sum_count» = 0 }))
     (refusedAt (headFault w m) line)
 
 -- a cell, in the order of adding: 2, 3, 10
-unfoldable pub cellStep : Interval → ℕ → ℕ → Cursor → Step
-cellStep I line next c =
+unfoldable pub cellStep : Interval → ℕ → Cursor → Step
+cellStep I line c =
     cond (eqb (cellFault (c .width) I) 0)
     (cond (leb 64 (c .«cell_count»)) (refusedAt 10 line)
-    (Cell I (record { at = next; width = c .width; «cell_count» = c .«cell_count» + 1; «sum_count» = c .«sum_count» })))
+    (Cell I (record { at = c .at; line = c .line; width = c .width; «cell_count» = c .«cell_count» + 1; «sum_count» = c .«sum_count» })))
     (refusedAt (cellFault (c .width) I) line)
 
 -- a sum, in the order of adding: 5, 6, 10
-unfoldable pub sumStep : Record → ℕ → ℕ → Cursor → Step
-sumStep s line next c =
+unfoldable pub sumStep : Record → ℕ → Cursor → Step
+sumStep s line c =
     cond (eqb (sumFault (c .«cell_count») s) 0)
     (cond (leb 128 (c .«sum_count»)) (refusedAt 10 line)
-    (Sum s (record { at = next; width = c .width; «cell_count» = c .«cell_count»; «sum_count» = c .«sum_count» + 1 })))
+    (Sum s (record { at = c .at; line = c .line; width = c .width; «cell_count» = c .«cell_count»; «sum_count» = c .«sum_count» + 1 })))
     (refusedAt (sumFault (c .«cell_count») s) line)
 
 -- ---- a line: 4, and after it the refusals of its record
-unfoldable pub admitted : Line → ℕ → ℕ → Cursor → Step
-admitted (Line.Head w m) line next c = headStep w m line next
-admitted (Line.Cell I) line next c = cellStep I line next c
-admitted (Line.Sum s) line next c = sumStep s line next c
-admitted Line.Malformed line next c = refusedAt 4 line
+unfoldable pub admitted : Line → ℕ → Cursor → Step
+admitted (Line.Head w m) line c = headStep w m line c
+admitted (Line.Cell I) line c = cellStep I line c
+admitted (Line.Sum s) line c = sumStep s line c
+admitted Line.Malformed line c = refusedAt 4 line
+
+-- the line after a line; the greatest number that a cursor can keep is stayed at
+unfoldable pub lineAfter : ℕ → ℕ
+lineAfter line = cond (eqb line 18446744073709551615) line (line + 1)
+
+-- the cursor past a line of n bytes and its line feed
+abbrev pub pastLine : ℕ → Cursor → Cursor
+pastLine n c = record { at = c .at + n + 1; line = lineAfter (c .line); width = c .width; «cell_count» = c .«cell_count»; «sum_count» = c .«sum_count» }
 
 -- ---- a text
--- the number of the line at a position, from 1
-unfoldable pub lineNumber : List ℕ → ℕ → ℕ
-lineNumber text at = countOf feed (take at text) + 1
-
--- with `ahead` still to be read: a line, or where no line feed is left, the end, which a text without a head has not
-abbrev pub stepAt : List ℕ → ℕ → Cursor → Step
-stepAt ahead line c =
+-- with `ahead` still to be read: a line, or where no line feed is left, the end, which a text without a head has not. A refusal's line is the one that the cursor keeps
+abbrev pub stepAt : List ℕ → Cursor → Step
+stepAt ahead c =
     cond (ltb (indexOf feed ahead) (length ahead))
-    (admitted (lineOf (c .at) (c .width) (before feed ahead)) line (c .at + indexOf feed ahead + 1) c)
-    (cond (eqb (length ahead) 0) (cond (eqb (c .at) 0) (refusedAt 4 line) End) (refusedAt 4 line))
+    (admitted (lineOf (c .at) (c .width) (before feed ahead)) (c .line) (pastLine (indexOf feed ahead) c))
+    (cond (eqb (length ahead) 0) (cond (eqb (c .at) 0) (refusedAt 4 (c .line)) End) (refusedAt 4 (c .line)))
 
 -- what stands at the cursor: 8, then the line there
 unfoldable pub nextOf : List ℕ → Cursor → Step
-nextOf text c = cond (ltb 8192 (length text)) (refusedAt 8 0) (stepAt (drop (c .at) text) (lineNumber text (c .at)) c)
+nextOf text c = cond (ltb 8192 (length text)) (refusedAt 8 0) (stepAt (drop (c .at) text) c)
 
 -- the cursor after a step: a refused record and the end are stayed at
 abbrev pub past : Step → Cursor → Cursor
@@ -106,3 +110,7 @@ cursorAfter (suc n) text = afterOf text (cursorAfter n text)
 -- the part of the text that the record at the cursor occupies, without its line feed; empty for refusal 8
 unfoldable pub recordAt : List ℕ → Cursor → List ℕ
 recordAt text c = cond (ltb 8192 (length text)) [] (before feed (drop (c .at) text))
+
+-- 01's line at a position, from 1: one more than the line feeds before it. A cursor reached from the start keeps it (`kept-line`, proofs/Counting)
+unfoldable pub lineNumber : List ℕ → ℕ → ℕ
+lineNumber text at = countOf feed (take at text) + 1

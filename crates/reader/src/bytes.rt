@@ -1,8 +1,8 @@
-// Byte slices: the first place of a byte, the parts before and after it, how often it occurs, equality.
+// Byte slices: the first place of a byte, the parts before and after it, equality.
 ghost use mathlib.Core.Path.{_≡_};
 ghost use Prim.Native.Nat.{_≤_};
-ghost use lib.ListN.{length, take, drop};
-ghost use Rattle.reader.specs.Bytes.{indexOf, before, after, countOf, isSame};
+ghost use lib.ListN.{length, drop};
+ghost use Rattle.reader.specs.Bytes.{indexOf, before, after, isSame};
 
 // The index of the first b, or the length where there is none.
 pub(crate) fn find(s: &[u8], b: u8) -> usize
@@ -16,21 +16,6 @@ pub(crate) fn find(s: &[u8], b: u8) -> usize
         i += 1;
     }
     i
-}
-
-// How many bytes are b.
-pub(crate) fn count(s: &[u8], b: u8) -> usize
-    ensures { λ r. ⌜ (r ≡ countOf b (now (s .entry))) × (r ≤ length (now (s .entry))) ⌝ }
-{
-    let mut n: usize = 0;
-    let mut i = 0;
-    while i < s.len() {
-        if s[i] == b {
-            n += 1;
-        }
-        i += 1;
-    }
-    n
 }
 
 // Whether two slices hold the same bytes.
@@ -71,11 +56,4 @@ pub(crate) fn rest(s: &[u8], at: usize) -> &[u8]
     ensures { λ r. ⌜ now r ≡ drop at (now (s .entry)) ⌝ }
 {
     if at <= s.len() { &s[at..] } else { &s[..0] }
-}
-
-// The part up to a position.
-pub(crate) fn front(s: &[u8], at: usize) -> &[u8]
-    ensures { λ r. ⌜ now r ≡ take at (now (s .entry)) ⌝ }
-{
-    if at <= s.len() { &s[..at] } else { s }
 }

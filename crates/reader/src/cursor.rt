@@ -1,11 +1,7 @@
 // The cursor: a position in a text with what the reader keeps, and the record that stands there.
 ghost use mathlib.Core.Path.{_≡_};
-ghost use Prim.Native.Nat.{_≤_};
-ghost use lib.ListN.{length};
-ghost use Rattle.reader.specs.Steps.{start, refusedAt, headStep, cellStep, sumStep, admitted, lineNumber, nextOf, afterOf, cursorAfter, recordAt};
-use crate::bytes::count;
+ghost use Rattle.reader.specs.Steps.{start, refusedAt, headStep, cellStep, sumStep, admitted, lineAfter, nextOf, afterOf, cursorAfter, recordAt};
 use crate::bytes::find;
-use crate::bytes::front;
 use crate::bytes::rest;
 use crate::bytes::until;
 use crate::line::Line;
@@ -17,9 +13,10 @@ use sheet::fault::head_fault;
 use sheet::fault::sum_fault;
 use sheet::kept::Record;
 
-// Where the next record stands, the width that the head gave, and the counts of cells and sums so far.
+// Where the next record stands and in which line, the width that the head gave, and the counts of cells and sums so far.
 pub struct Cursor {
     pub at: usize,
+    pub line: u64,
     pub width: u64,
     pub cell_count: u64,
     pub sum_count: u64,
@@ -51,6 +48,7 @@ impl Cursor {
     {
         Cursor {
             at: 0,
+            line: 1,
             width: 0,
             cell_count: 0,
             sum_count: 0,
@@ -67,9 +65,19 @@ fn refuse_at(number: u64, line: u64) -> Step
     })
 }
 
-// A head, in the order of opening: refusals 1, 7.
-fn head_step(width: u64, limit: u64, line: u64, next: usize) -> Step
-    ensures { λ r. ⌜ r ≡ headStep width limit line next ⌝ }
+// The line after a line. The greatest number that a cursor can keep is stayed at; no text has so many lines.
+fn line_after(line: u64) -> u64
+    ensures { λ r. ⌜ r ≡ lineAfter line ⌝ }
+{
+    if line == 18446744073709551615 {
+        return line;
+    }
+    line + 1
+}
+
+// A head in a line, in the order of opening: refusals 1, 7. Past its line stands the cursor c.
+fn head_step(width: u64, limit: u64, line: u64, c: Cursor) -> Step
+    ensures { λ r. ⌜ r ≡ headStep width limit line c ⌝ }
 {
     let fault = head_fault(width, limit);
     if fault != 0 {
@@ -79,7 +87,8 @@ fn head_step(width: u64, limit: u64, line: u64, next: usize) -> Step
         width,
         limit,
         next: Cursor {
-            at: next,
+            at: c.at,
+            line: c.line,
             width,
             cell_count: 0,
             sum_count: 0,
@@ -87,9 +96,9 @@ fn head_step(width: u64, limit: u64, line: u64, next: usize) -> Step
     }
 }
 
-// A cell, in the order of adding: refusals 2, 3, 10.
-fn cell_step(cell: Interval, line: u64, next: usize, c: Cursor) -> Step
-    ensures { λ r. ⌜ r ≡ cellStep cell line next c ⌝ }
+// A cell in a line, in the order of adding: refusals 2, 3, 10. Past its line stands the cursor c.
+fn cell_step(cell: Interval, line: u64, c: Cursor) -> Step
+    ensures { λ r. ⌜ r ≡ cellStep cell line c ⌝ }
 {
     let fault = cell_fault(c.width, cell);
     if fault != 0 {
@@ -101,7 +110,8 @@ fn cell_step(cell: Interval, line: u64, next: usize, c: Cursor) -> Step
     Step::Cell {
         cell,
         next: Cursor {
-            at: next,
+            at: c.at,
+            line: c.line,
             width: c.width,
             cell_count: c.cell_count + 1,
             sum_count: c.sum_count,
@@ -109,9 +119,9 @@ fn cell_step(cell: Interval, line: u64, next: usize, c: Cursor) -> Step
     }
 }
 
-// A sum, in the order of adding: refusals 5, 6, 10.
-fn sum_step(sum: Record, line: u64, next: usize, c: Cursor) -> Step
-    ensures { λ r. ⌜ r ≡ sumStep sum line next c ⌝ }
+// A sum in a line, in the order of adding: refusals 5, 6, 10. Past its line stands the cursor c.
+fn sum_step(sum: Record, line: u64, c: Cursor) -> Step
+    ensures { λ r. ⌜ r ≡ sumStep sum line c ⌝ }
 {
     let fault = sum_fault(c.cell_count, sum);
     if fault != 0 {
@@ -123,7 +133,8 @@ fn sum_step(sum: Record, line: u64, next: usize, c: Cursor) -> Step
     Step::Sum {
         sum,
         next: Cursor {
-            at: next,
+            at: c.at,
+            line: c.line,
             width: c.width,
             cell_count: c.cell_count,
             sum_count: c.sum_count + 1,
@@ -131,24 +142,16 @@ fn sum_step(sum: Record, line: u64, next: usize, c: Cursor) -> Step
     }
 }
 
-// What a line gives at a cursor: refusal 4, and after it those of its record.
-fn admit(l: Line, line: u64, next: usize, c: Cursor) -> Step
-    ensures { λ r. ⌜ r ≡ admitted l line next c ⌝ }
+// What a line gives: refusal 4, and after it those of its record. Past the line stands the cursor c, with the record not yet counted.
+fn admit(l: Line, line: u64, c: Cursor) -> Step
+    ensures { λ r. ⌜ r ≡ admitted l line c ⌝ }
 {
     match l {
-        Line::Head { width, limit } => head_step(width, limit, line, next),
-        Line::Cell(cell) => cell_step(cell, line, next, c),
-        Line::Sum(sum) => sum_step(sum, line, next, c),
+        Line::Head { width, limit } => head_step(width, limit, line, c),
+        Line::Cell(cell) => cell_step(cell, line, c),
+        Line::Sum(sum) => sum_step(sum, line, c),
         Line::Malformed => refuse_at(4, line),
     }
-}
-
-// The number of the line at a position.
-fn line_at(text: &[u8], at: usize) -> u64
-    requires { ⌜ length (now text) ≤ 8192 ⌝ }
-    ensures { λ r. ⌜ r ≡ lineNumber (now (text .entry)) at ⌝ }
-{
-    count(front(text, at), 10) as u64 + 1
 }
 
 // The record at the cursor, or the refusal due there. A refusal leaves the cursor where it is.
@@ -160,17 +163,23 @@ pub fn next(text: &[u8], c: Cursor) -> Step
     }
     let at = c.at;
     let ahead = rest(text, at);
-    let line = line_at(text, at);
     let n = find(ahead, 10);
     if n < ahead.len() {
         let l = parse(at, c.width, &ahead[..n]);
-        return admit(l, line, at + n + 1, c);
+        let past = Cursor {
+            at: at + n + 1,
+            line: line_after(c.line),
+            width: c.width,
+            cell_count: c.cell_count,
+            sum_count: c.sum_count,
+        };
+        return admit(l, c.line, past);
     }
     if ahead.len() != 0 {
-        return refuse_at(4, line);
+        return refuse_at(4, c.line);
     }
     if at == 0 {
-        return refuse_at(4, line);
+        return refuse_at(4, c.line);
     }
     Step::End
 }

@@ -24,6 +24,7 @@ impl<'a> Reader<'a> {
             text,
             cursor: Cursor {
                 at: 0,
+                line: 1,
                 width: 0,
                 cell_count: 0,
                 sum_count: 0,

@@ -8,25 +8,25 @@ enum-known-l : tie.Need-enum-known-l
 enum-known-l c = search needs
 
 head-step-requires : tie.Need-head-step-requires
-head-step-requires c κs = search needs
+head-step-requires c κs = tt
 
 enum-known-l-2 : tie.Need-enum-known-l-2
 enum-known-l-2 c = search needs
 
 cell-step-requires : tie.Need-cell-step-requires
-cell-step-requires c κs = search needs
+cell-step-requires c κs = tt
 
 enum-known-l-3 : tie.Need-enum-known-l-3
 enum-known-l-3 c = search needs
 
 sum-step-requires : tie.Need-sum-step-requires
-sum-step-requires c κs = search needs
+sum-step-requires c κs = tt
 
 enum-told : tie.Need-enum-told
 enum-told c = search needs
 
 refuse-at-requires : tie.Need-refuse-at-requires
-refuse-at-requires c κs = search needs
+refuse-at-requires c κs = tt
 
 returns : tie.Need-returns
 unfolding admitted

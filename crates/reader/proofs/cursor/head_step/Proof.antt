@@ -1,15 +1,14 @@
 -- `reader::cursor::head_step` meets its contract. Assumes nothing.
 use Rattle.reader.specs.Steps.{headStep}
 use borrow.Author.Tests.{eq-eqb, ne-eqb}
-use borrow.Author.Needs.{needs}
 use Rattle.reader.proofs.cursor.head_step.Statement.{statement}
 use Rattle.reader.proofs.cursor.head_step.Tie as tie
 
 head-fault-requires : tie.Need-head-fault-requires
-head-fault-requires c κs = search needs
+head-fault-requires c κs = tt
 
 refuse-at-requires : tie.Need-refuse-at-requires
-refuse-at-requires c κs = search needs
+refuse-at-requires c κs = tt
 
 returns : tie.Need-returns
 unfolding headStep

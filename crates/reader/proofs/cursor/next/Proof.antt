@@ -5,62 +5,61 @@ use borrow.Author.Tests.{eq-eqb, ne-eqb, lt-ltb, le-ltb}
 use Rattle.reader.specs.Bytes.{before}
 use Rattle.reader.specs.Steps.{nextOf}
 use native.Mathlib.Omega.{arith}
-use borrow.Author.Needs.{needs}
 use Rattle.reader.proofs.cursor.next.Statement.{statement}
 use Rattle.reader.proofs.cursor.next.Tie as tie
 
 refuse-at-requires : tie.Need-refuse-at-requires
-refuse-at-requires c κs = search needs
+refuse-at-requires c κs = tt
 
 returns : tie.Need-returns
 unfolding nextOf
 returns c = rw (lt-ltb _ _ (c .before .if1 .taken)) (c .refuse-at .ensures)
 
 rest-requires : tie.Need-rest-requires
-rest-requires c κs = search needs
-
-line-at-requires : tie.Need-line-at-requires
-line-at-requires c κs = search needs
+rest-requires c κs = tt
 
 find-requires : tie.Need-find-requires
-find-requires c κs = search needs
+find-requires c κs = tt
 
 slice-aggregate-parse : tie.Need-slice-aggregate-parse
 slice-aggregate-parse c = simp length-take (omega arith)
 
 parse-requires : tie.Need-parse-requires
-parse-requires c κs = search needs
+parse-requires c κs = tt
 
-add-admit : tie.Need-add-admit
-add-admit c = omega (arith, simp length-drop at (ap length (c .before .before .before .before .before .rest .ensures)))
+add-t12 : tie.Need-add-t12
+add-t12 c = omega (arith, simp length-drop at (ap length (c .before .before .before .before .rest .ensures)))
 
-add-admit-2 : tie.Need-add-admit-2
-add-admit-2 c = omega (arith, simp length-drop at (ap length (c .before .before .before .before .before .rest .ensures)))
+add-t13 : tie.Need-add-t13
+add-t13 c = omega (arith, simp length-drop at (ap length (c .before .before .before .before .rest .ensures)))
+
+line-after-requires : tie.Need-line-after-requires
+line-after-requires c κs = tt
 
 admit-requires : tie.Need-admit-requires
-admit-requires c κs = search needs
+admit-requires c κs = tt
 
 returns-2 : tie.Need-returns-2
 unfolding nextOf before
-returns-2 c = rw (le-ltb _ _ (c .before .before .before .before .before .before .before .if1 .left), ← c .before .before .before .before .before .before .rest .ensures, ← c .before .before .before .before .before .line-at .ensures, ← c .before .before .before .before .find .ensures .0, lt-ltb _ _ (c .before .before .before .if2 .taken), ← c .before .parse .ensures) (c .admit .ensures)
+returns-2 c = rw (le-ltb _ _ (c .before .before .before .before .before .before .before .if1 .left), ← c .before .before .before .before .before .before .rest .ensures, ← c .before .before .before .before .before .find .ensures .0, lt-ltb _ _ (c .before .before .before .before .if2 .taken), ← c .before .before .parse .ensures, ← c .before .line-after .ensures) (c .admit .ensures)
 
 refuse-at-requires-2 : tie.Need-refuse-at-requires-2
-refuse-at-requires-2 c κs = search needs
+refuse-at-requires-2 c κs = tt
 
 returns-3 : tie.Need-returns-3
 unfolding nextOf before
-returns-3 c = rw (le-ltb _ _ (c .before .before .before .before .before .before .if1 .left), ← c .before .before .before .before .before .rest .ensures, ← c .before .before .before .before .line-at .ensures, ← c .before .before .before .find .ensures .0, le-ltb _ _ (c .before .before .if2 .left), ne-eqb _ _ (c .before .if3 .taken)) (c .refuse-at2 .ensures)
+returns-3 c = rw (le-ltb _ _ (c .before .before .before .before .before .if1 .left), ← c .before .before .before .before .rest .ensures, ← c .before .before .before .find .ensures .0, le-ltb _ _ (c .before .before .if2 .left), ne-eqb _ _ (c .before .if3 .taken)) (c .refuse-at2 .ensures)
 
 refuse-at-requires-3 : tie.Need-refuse-at-requires-3
-refuse-at-requires-3 c κs = search needs
+refuse-at-requires-3 c κs = tt
 
 returns-4 : tie.Need-returns-4
 unfolding nextOf before
-returns-4 c = rw (le-ltb _ _ (c .before .before .before .before .before .before .before .if1 .left), ← c .before .before .before .before .before .before .rest .ensures, ← c .before .before .before .before .before .line-at .ensures, ← c .before .before .before .before .find .ensures .0, le-ltb _ _ (c .before .before .before .if2 .left), eq-eqb _ _ (c .before .before .if3 .left), eq-eqb _ _ (c .before .if4 .taken)) (c .refuse-at3 .ensures)
+returns-4 c = rw (le-ltb _ _ (c .before .before .before .before .before .before .if1 .left), ← c .before .before .before .before .before .rest .ensures, ← c .before .before .before .before .find .ensures .0, le-ltb _ _ (c .before .before .before .if2 .left), eq-eqb _ _ (c .before .before .if3 .left), eq-eqb _ _ (c .before .if4 .taken)) (c .refuse-at3 .ensures)
 
 returns-5 : tie.Need-returns-5
 unfolding nextOf before
-returns-5 c = rw (le-ltb _ _ (c .before .before .before .before .before .before .if1 .left), ← c .before .before .before .before .before .rest .ensures, ← c .before .before .before .before .line-at .ensures, ← c .before .before .before .find .ensures .0, le-ltb _ _ (c .before .before .if2 .left), eq-eqb _ _ (c .before .if3 .left), ne-eqb _ _ (c .if4 .left))
+returns-5 c = rw (le-ltb _ _ (c .before .before .before .before .before .if1 .left), ← c .before .before .before .before .rest .ensures, ← c .before .before .before .find .ensures .0, le-ltb _ _ (c .before .before .if2 .left), eq-eqb _ _ (c .before .if3 .left), ne-eqb _ _ (c .if4 .left))
 
 pub next-spec : {M : Type 1} → statement M
 next-spec =
@@ -69,12 +68,12 @@ next-spec =
     refuse-at-requires
     returns
     rest-requires
-    line-at-requires
     find-requires
     slice-aggregate-parse
     parse-requires
-    add-admit
-    add-admit-2
+    add-t12
+    add-t13
+    line-after-requires
     admit-requires
     returns-2
     refuse-at-requires-2
