@@ -9,7 +9,7 @@ use Rattle.reader.proofs.bytes.past.Statement.{statement}
 use Rattle.reader.proofs.bytes.past.Tie as tie
 
 find-requires : tie.Need-find-requires
-find-requires c κs = search needs
+find-requires c κs = tt
 
 add-result : tie.Need-add-result
 add-result c = search needs

@@ -1,13 +1,12 @@
 -- `reader::bytes::until` meets its contract. Assumes nothing.
 use lib.ListN.{length-take}
 use Rattle.reader.specs.Bytes.{before}
-use borrow.Author.Needs.{needs}
 use native.Mathlib.Omega.{arith}
 use Rattle.reader.proofs.bytes.until.Statement.{statement}
 use Rattle.reader.proofs.bytes.until.Tie as tie
 
 find-requires : tie.Need-find-requires
-find-requires c κs = search needs
+find-requires c κs = tt
 
 slice-aggregate-result : tie.Need-slice-aggregate-result
 slice-aggregate-result c = simp length-take (omega arith)

@@ -13,10 +13,10 @@ unfolding recordAt
 returns c = rw (lt-ltb _ _ (c .before .if1 .taken))
 
 rest-requires : tie.Need-rest-requires
-rest-requires c κs = search needs
+rest-requires c κs = tt
 
 until-requires : tie.Need-until-requires
-until-requires c κs = search needs
+until-requires c κs = tt
 
 returns-2 : tie.Need-returns-2
 unfolding recordAt

@@ -1,23 +1,22 @@
 -- `reader::line::head_in` meets its contract. Assumes nothing.
 use Rattle.reader.specs.Lines.{headIn}
-use borrow.Author.Needs.{needs}
 use Rattle.reader.proofs.line.head_in.Statement.{statement}
 use Rattle.reader.proofs.line.head_in.Tie as tie
 
 until-requires : tie.Need-until-requires
-until-requires c κs = search needs
+until-requires c κs = tt
 
 numeral-requires : tie.Need-numeral-requires
-numeral-requires c κs = search needs
+numeral-requires c κs = tt
 
 past-requires : tie.Need-past-requires
-past-requires c κs = search needs
+past-requires c κs = tt
 
 numeral-requires-2 : tie.Need-numeral-requires-2
-numeral-requires-2 c κs = search needs
+numeral-requires-2 c κs = tt
 
 head-from-requires : tie.Need-head-from-requires
-head-from-requires c κs = search needs
+head-from-requires c κs = tt
 
 returns : tie.Need-returns
 unfolding headIn

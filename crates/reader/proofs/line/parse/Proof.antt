@@ -6,19 +6,19 @@ use Rattle.reader.proofs.line.parse.Statement.{statement}
 use Rattle.reader.proofs.line.parse.Tie as tie
 
 until-requires : tie.Need-until-requires
-until-requires c κs = search needs
+until-requires c κs = tt
 
 past-requires : tie.Need-past-requires
-past-requires c κs = search needs
+past-requires c κs = tt
 
 slice-aggregate-same : tie.Need-slice-aggregate-same
 slice-aggregate-same c = search needs
 
 same-requires : tie.Need-same-requires
-same-requires c κs = search needs
+same-requires c κs = tt
 
 head-in-requires : tie.Need-head-in-requires
-head-in-requires c κs = search needs
+head-in-requires c κs = tt
 
 returns : tie.Need-returns
 unfolding lineOf
@@ -32,10 +32,10 @@ slice-aggregate-same-2 : tie.Need-slice-aggregate-same-2
 slice-aggregate-same-2 c = search needs
 
 same-requires-2 : tie.Need-same-requires-2
-same-requires-2 c κs = search needs
+same-requires-2 c κs = tt
 
 cell-in-requires : tie.Need-cell-in-requires
-cell-in-requires c κs = search needs
+cell-in-requires c κs = tt
 
 returns-3 : tie.Need-returns-3
 unfolding lineOf
@@ -45,10 +45,10 @@ slice-aggregate-same-3 : tie.Need-slice-aggregate-same-3
 slice-aggregate-same-3 c = search needs
 
 same-requires-3 : tie.Need-same-requires-3
-same-requires-3 c κs = search needs
+same-requires-3 c κs = tt
 
 sum-in-requires : tie.Need-sum-in-requires
-sum-in-requires c κs = search needs
+sum-in-requires c κs = tt
 
 returns-4 : tie.Need-returns-4
 unfolding lineOf

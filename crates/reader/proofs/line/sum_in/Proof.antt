@@ -1,32 +1,31 @@
 -- `reader::line::sum_in` meets its contract. Assumes nothing.
 use Rattle.reader.specs.Lines.{sumIn}
-use borrow.Author.Needs.{needs}
 use Rattle.reader.proofs.line.sum_in.Statement.{statement}
 use Rattle.reader.proofs.line.sum_in.Tie as tie
 
 past-requires : tie.Need-past-requires
-past-requires c κs = search needs
+past-requires c κs = tt
 
 until-requires : tie.Need-until-requires
-until-requires c κs = search needs
+until-requires c κs = tt
 
 numeral-requires : tie.Need-numeral-requires
-numeral-requires c κs = search needs
+numeral-requires c κs = tt
 
 until-requires-2 : tie.Need-until-requires-2
-until-requires-2 c κs = search needs
+until-requires-2 c κs = tt
 
 numeral-requires-2 : tie.Need-numeral-requires-2
-numeral-requires-2 c κs = search needs
+numeral-requires-2 c κs = tt
 
 past-requires-2 : tie.Need-past-requires-2
-past-requires-2 c κs = search needs
+past-requires-2 c κs = tt
 
 numeral-requires-3 : tie.Need-numeral-requires-3
-numeral-requires-3 c κs = search needs
+numeral-requires-3 c κs = tt
 
 sum-from-requires : tie.Need-sum-from-requires
-sum-from-requires c κs = search needs
+sum-from-requires c κs = tt
 
 returns : tie.Need-returns
 unfolding sumIn

@@ -10,7 +10,7 @@ unfolding digitOf
 returns c = rw (lt-ltb _ _ (c .if1 .taken)) (search needs)
 
 wide-requires : tie.Need-wide-requires
-wide-requires c κs = search needs
+wide-requires c κs = tt
 
 returns-2 : tie.Need-returns-2
 unfolding digitOf
@@ -24,7 +24,7 @@ sub-wide : tie.Need-sub-wide
 sub-wide c = search needs
 
 wide-requires-2 : tie.Need-wide-requires-2
-wide-requires-2 c κs = search needs
+wide-requires-2 c κs = tt
 
 returns-4 : tie.Need-returns-4
 unfolding digitOf

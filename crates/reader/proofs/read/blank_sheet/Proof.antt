@@ -1,12 +1,11 @@
 -- `reader::read::blank_sheet` meets its contract. Assumes nothing.
 use Rattle.sheet.specs.Faults.{headFault}
 use Rattle.sheet.specs.Sheets.{openOf}
-use borrow.Author.Needs.{needs}
 use Rattle.reader.proofs.read.blank_sheet.Statement.{statement}
 use Rattle.reader.proofs.read.blank_sheet.Tie as tie
 
 open-requires : tie.Need-open-requires
-open-requires c κs = search needs
+open-requires c κs = tt
 
 returns : tie.Need-returns
 unfolding openOf headFault

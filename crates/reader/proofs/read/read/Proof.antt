@@ -14,22 +14,22 @@ abbrev μ-loop : tie.MeasureT-loop
 μ-loop text cursor₀ sheet₀ cursor sheet = length text - cursor .at
 
 new-requires : tie.Need-new-requires Inv-loop μ-loop
-new-requires c κs = search needs
+new-requires c κs = tt
 
 blank-sheet-requires : tie.Need-blank-sheet-requires Inv-loop μ-loop
-blank-sheet-requires c κs = search needs
+blank-sheet-requires c κs = tt
 
 loop-holds : tie.Need-loop-holds Inv-loop μ-loop
 loop-holds c = rw (c .before .new .ensures, c .blank-sheet .ensures) (begun (c .before .before .before .args .text .now))
 
 next-requires : tie.Need-next-requires Inv-loop μ-loop
-next-requires c κs = search needs
+next-requires c κs = tt
 
 enum-known-width : tie.Need-enum-known-width Inv-loop μ-loop
 enum-known-width c = search needs
 
 open-requires : tie.Need-open-requires Inv-loop μ-loop
-open-requires c κs = search needs
+open-requires c κs = tt
 
 loop-less : tie.Need-loop-less Inv-loop μ-loop
 loop-less c = (rw (← c .before .before .before .before .before .next .ensures, c .before .before .before .width .given .1) at (follows (c .before .before .before .before .before .before .loop .inv))) .less
@@ -41,7 +41,7 @@ enum-known-cell : tie.Need-enum-known-cell Inv-loop μ-loop
 enum-known-cell c = search needs
 
 add-cell-requires : tie.Need-add-cell-requires Inv-loop μ-loop
-add-cell-requires c κs = search needs
+add-cell-requires c κs = tt
 
 loop-less-2 : tie.Need-loop-less-2 Inv-loop μ-loop
 loop-less-2 c = (rw (← c .before .before .before .before .before .next .ensures, c .before .before .before .cell .given .1) at (follows (c .before .before .before .before .before .before .loop .inv))) .less
@@ -53,7 +53,7 @@ enum-known-sum : tie.Need-enum-known-sum Inv-loop μ-loop
 enum-known-sum c = search needs
 
 add-sum-requires : tie.Need-add-sum-requires Inv-loop μ-loop
-add-sum-requires c κs = search needs
+add-sum-requires c κs = tt
 
 loop-less-3 : tie.Need-loop-less-3 Inv-loop μ-loop
 loop-less-3 c = (rw (← c .before .before .before .before .before .next .ensures, c .before .before .before .sum .given .1) at (follows (c .before .before .before .before .before .before .loop .inv))) .less
@@ -71,7 +71,7 @@ enum-known-r : tie.Need-enum-known-r Inv-loop μ-loop
 enum-known-r c = search needs
 
 blank-sheet-requires-2 : tie.Need-blank-sheet-requires-2 Inv-loop μ-loop
-blank-sheet-requires-2 c κs = search needs
+blank-sheet-requires-2 c κs = tt
 
 returns-2 : tie.Need-returns-2 Inv-loop μ-loop
 returns-2 c = rw (c .blank-sheet2 .ensures) (sym (rw (← c .before .before .before .before .next .ensures, c .before .before .r .given .1) at (follows (c .before .before .before .before .before .loop .inv))))
