@@ -1,4 +1,4 @@
--- A `Reader` taken apart for a function of a text and a cursor: what the proofs of `Reader::step`, `Reader::advance` and `Reader::record` share. Assumes nothing.
+-- A `Reader` taken apart for a function of a text and a cursor: what the proofs of `Reader::next` and `Reader::record` share. Assumes nothing.
 use mathlib.Core.Path.{_≡_}
 use mathlib.Core.List.{List, [], _∷_}
 use lib.ListN.{length}

@@ -12,6 +12,7 @@ use Rattle.reader.specs.Lines.{feed, lineOf}
 use Rattle.reader.specs.declared.line.Line.{Line}
 use Rattle.reader.specs.declared.line.Line.the-variants as Line
 use Rattle.reader.specs.declared.cursor.Cursor.{Cursor}
+use Rattle.reader.specs.declared.cursor.Moved.{Moved}
 use Rattle.reader.specs.declared.cursor.Step.{Step}
 use Rattle.reader.specs.declared.cursor.Step.the-variants.{Head, Cell, Sum, End, Refused}
 
@@ -101,6 +102,10 @@ past (Refused r) c = c
 -- the cursor after the record at the cursor
 unfoldable pub afterOf : List ℕ → Cursor → Cursor
 afterOf text c = past (nextOf text c) c
+
+-- the step from a cursor, and the cursor after it
+unfoldable pub advanceOf : List ℕ → Cursor → Moved
+advanceOf text c = record { cursor = afterOf text c; step = nextOf text c }
 
 -- the cursor after the first n records
 unfoldable pub cursorAfter : ℕ → List ℕ → Cursor

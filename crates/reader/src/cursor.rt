@@ -1,6 +1,6 @@
 // The cursor: a position in a text with what the reader keeps, and the record that stands there.
 ghost use mathlib.Core.Path.{_≡_};
-ghost use Rattle.reader.specs.Steps.{start, refusedAt, headStep, cellStep, sumStep, admitted, lineAfter, nextOf, afterOf, cursorAfter, recordAt};
+ghost use Rattle.reader.specs.Steps.{start, refusedAt, headStep, cellStep, sumStep, admitted, lineAfter, nextOf, past, advanceOf, cursorAfter, recordAt};
 use crate::bytes::find;
 use crate::bytes::rest;
 use crate::bytes::until;
@@ -39,6 +39,12 @@ pub enum Step {
     },
     End,
     Refused(Refusal),
+}
+
+// A step, and the cursor after it.
+pub struct Moved {
+    pub cursor: Cursor,
+    pub step: Step,
 }
 
 impl Cursor {
@@ -184,16 +190,27 @@ pub fn next(text: &[u8], c: Cursor) -> Step
     Step::End
 }
 
-// The cursor after the record there. A refused record and the end are stayed at.
-pub fn after(text: &[u8], c: Cursor) -> Cursor
-    ensures { λ r. ⌜ r ≡ afterOf (now (text .entry)) c ⌝ }
+// The cursor after a step from c. A refused record and the end are stayed at.
+fn past(step: Step, c: Cursor) -> Cursor
+    ensures { λ r. ⌜ r ≡ past step c ⌝ }
 {
-    match next(text, c) {
+    match step {
         Step::Head { next, .. } => next,
         Step::Cell { next, .. } => next,
         Step::Sum { next, .. } => next,
         Step::End => c,
         Step::Refused(_) => c,
+    }
+}
+
+// The step from a cursor, and the cursor after it.
+pub fn advance(text: &[u8], c: Cursor) -> Moved
+    ensures { λ r. ⌜ r ≡ advanceOf (now (text .entry)) c ⌝ }
+{
+    let step = next(text, c);
+    Moved {
+        cursor: past(step, c),
+        step,
     }
 }
 
@@ -204,7 +221,8 @@ pub fn skip(text: &[u8], n: u16) -> Cursor
     let mut cursor = Cursor::new();
     let mut i = 0;
     while i < n {
-        cursor = after(text, cursor);
+        let a = advance(text, cursor);
+        cursor = a.cursor;
         i += 1;
     }
     cursor

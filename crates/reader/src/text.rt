@@ -4,8 +4,7 @@ ghost use mathlib.Core.Path.{_≡_};
 ghost use Rattle.reader.specs.Steps.{start, nextOf, afterOf, cursorAfter, recordAt};
 use crate::cursor::Cursor;
 use crate::cursor::Step;
-use crate::cursor::after;
-use crate::cursor::next;
+use crate::cursor::advance;
 use crate::cursor::record_at;
 use crate::cursor::skip;
 
@@ -13,6 +12,12 @@ use crate::cursor::skip;
 pub struct Reader<'a> {
     pub text: &'a [u8],
     pub cursor: Cursor,
+}
+
+// What a reader gives, and the reader after it.
+pub struct Given<'a> {
+    pub reader: Reader<'a>,
+    pub step: Step,
 }
 
 impl<'a> Reader<'a> {
@@ -32,20 +37,17 @@ impl<'a> Reader<'a> {
         }
     }
 
-    // The record at the reader, the end of the text, or the refusal due there.
-    pub fn step(self) -> Step
-        ensures { λ s. ⌜ s ≡ nextOf (now (self .entry .text)) (self .entry .cursor) ⌝ }
+    // The record at the reader, the end of the text or the refusal due there, and the reader after it. It stays at a refused record and at the end.
+    pub fn next(self) -> Given<'a>
+        ensures { λ r. ⌜ (r .reader .text ≡ self .entry .text) × ((r .reader .cursor ≡ afterOf (now (self .entry .text)) (self .entry .cursor)) × (r .step ≡ nextOf (now (self .entry .text)) (self .entry .cursor))) ⌝ }
     {
-        next(self.text, self.cursor)
-    }
-
-    // The reader after that record. It stays at a refused record and at the end.
-    pub fn advance(self) -> Self
-        ensures { λ r. ⌜ (r .text ≡ self .entry .text) × (r .cursor ≡ afterOf (now (self .entry .text)) (self .entry .cursor)) ⌝ }
-    {
-        Reader {
-            text: self.text,
-            cursor: after(self.text, self.cursor),
+        let a = advance(self.text, self.cursor);
+        Given {
+            reader: Reader {
+                text: self.text,
+                cursor: a.cursor,
+            },
+            step: a.step,
         }
     }
 
@@ -62,5 +64,6 @@ pub fn nth(text: &[u8], n: u16) -> Step
     ensures { λ r. ⌜ r ≡ nextOf (now (text .entry)) (cursorAfter n (now (text .entry))) ⌝ }
 {
     let cursor = skip(text, n);
-    Reader { text, cursor }.step()
+    let given = Reader { text, cursor }.next();
+    given.step
 }

@@ -3,7 +3,8 @@ use Prim.Native.Nat.{ℕ, suc, _+_, _≤_, _-_}
 use mathlib.Core.List.{List}
 use mathlib.Core.Path.{_≡_, sym, ap, _∙_}
 use native.Mathlib.Omega.{arith}
-use Rattle.reader.specs.Steps.{afterOf, cursorAfter}
+use Rattle.reader.specs.Steps.{afterOf, advanceOf, cursorAfter}
+use Rattle.reader.specs.declared.cursor.Moved.{Moved}
 use borrow.Author.Needs.{needs}
 use Rattle.reader.proofs.cursor.skip.Statement.{statement}
 use Rattle.reader.proofs.cursor.skip.Tie as tie
@@ -28,8 +29,8 @@ loop-holds : tie.Need-loop-holds Inv-loop μ-loop
 unfolding cursorAfter
 loop-holds c = (c .new .ensures, omega arith)
 
-after-requires : tie.Need-after-requires Inv-loop μ-loop
-after-requires c κs = tt
+advance-requires : tie.Need-advance-requires Inv-loop μ-loop
+advance-requires c κs = tt
 
 add-i : tie.Need-add-i Inv-loop μ-loop
 add-i c = search needs
@@ -38,9 +39,10 @@ loop-less : tie.Need-loop-less Inv-loop μ-loop
 loop-less c = search needs
 
 loop-again : tie.Need-loop-again Inv-loop μ-loop
+unfolding advanceOf
 loop-again c =
-    let text : List ℕ = c .before .before .before .before .before .args .text .now in
-    (c .after .ensures ∙ ap (afterOf text) (c .before .before .loop .inv .0) ∙ sym (one-more text (c .before .before .loop .i)), omega arith)
+    let text : List ℕ = c .before .before .before .before .before .before .args .text .now in
+    (ap (λ (m : Moved). m .cursor) (c .before .advance .ensures) ∙ ap (afterOf text) (c .before .before .before .loop .inv .0) ∙ sym (one-more text (c .before .before .before .loop .i)), omega arith)
 
 returns : tie.Need-returns Inv-loop μ-loop
 returns c =
@@ -55,7 +57,7 @@ skip-spec =
     μ-loop
     new-requires
     loop-holds
-    after-requires
+    advance-requires
     add-i
     loop-less
     loop-again
