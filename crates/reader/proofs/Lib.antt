@@ -13,3 +13,4 @@ pub mod Tested
 pub mod Staying
 pub mod Placing
 pub mod Held
+pub mod Made

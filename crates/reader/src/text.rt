@@ -1,5 +1,5 @@
 // The reader: a struct with the caller's text and a cursor in it, and thin functions over the covered cursor.
-// The borrow checker covers no function over such a struct, so each is proved by hand. A caller of `nth`, whose parameters are plain, is covered.
+// The borrow checker covers no function over such a struct, so each is proved by hand. A caller of `nth` and `part`, whose parameters are plain, is covered.
 ghost use mathlib.Core.Path.{_≡_};
 ghost use Rattle.reader.specs.Steps.{start, nextOf, afterOf, cursorAfter, recordAt};
 use crate::cursor::Cursor;
@@ -66,4 +66,12 @@ pub fn nth(text: &[u8], n: u16) -> Step
     let cursor = skip(text, n);
     let given = Reader { text, cursor }.next();
     given.step
+}
+
+// The part of the text that the record after the first n occupies. It is the refused one, or empty at the end, where either comes sooner.
+pub fn part(text: &[u8], n: u16) -> &[u8]
+    ensures { λ r. ⌜ now r ≡ recordAt (now (text .entry)) (cursorAfter n (now (text .entry))) ⌝ }
+{
+    let cursor = skip(text, n);
+    Reader { text, cursor }.record()
 }
