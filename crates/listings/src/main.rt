@@ -1,4 +1,6 @@
-// Prints the listings of 01's other sheets and of a text for each refusal, each held to the stored output. Thin over the crate `listing`.
+// Prints the listings of 01's other sheets and of a text for each refusal, then what the reader gives of some texts, all held to the stored output. Thin over the crates `listing` and `reader`.
+mod records;
+
 use libc::STDOUT_FILENO;
 use listing::from_text::list;
 use listing::writer::Written;
@@ -108,4 +110,5 @@ fn main() {
         b"sum\t0\t1\t2\n",
         129,
     );
+    records::read_records();
 }

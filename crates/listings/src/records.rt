@@ -1,0 +1,76 @@
+// Prints what the reader gives of a text, record after record, each with the part of the text where it stands. Thin over the crate `reader`.
+use libc::STDOUT_FILENO;
+use reader::cursor::Step;
+use reader::text::nth;
+use reader::text::part;
+
+fn put_text(text: &[u8]) {
+    io::write_all(STDOUT_FILENO, text);
+}
+
+// A number after a tab.
+fn put_number(n: u64) {
+    put_text(b"\t");
+    io::print_decimal(STDOUT_FILENO, n);
+}
+
+// The fields of a record, that the text has ended, or a refusal's number and line.
+fn put_step(step: Step) {
+    match step {
+        Step::Head { width, limit, .. } => {
+            put_text(b"head");
+            put_number(width);
+            put_number(limit);
+        }
+        Step::Cell { cell, .. } => {
+            put_text(b"cell");
+            put_number(cell.low);
+            put_number(cell.high);
+        }
+        Step::Sum { sum, .. } => {
+            put_text(b"sum");
+            put_number(sum.x);
+            put_number(sum.a);
+            put_number(sum.b);
+        }
+        Step::End => put_text(b"end"),
+        Step::Refused(r) => {
+            put_text(b"refused");
+            put_number(r.number);
+            put_number(r.place);
+        }
+    }
+}
+
+// The first n answers of the reader, each in a line, the part of the text in brackets.
+fn show_records(text: &[u8], n: u16) {
+    let mut i: u16 = 0;
+    while i < n {
+        put_step(nth(text, i));
+        put_text(b"\t[");
+        put_text(part(text, i));
+        put_text(b"]\n");
+        i += 1;
+    }
+}
+
+// A text to its end, and the end again; a refused record, stayed at; a last line without its line feed; no head; empty text; text too long.
+pub(crate) fn read_records() {
+    show_records(
+        b"sheet\t32\t10\ncell\t3F800000\t40000000\ncell\t00000000\t00000001\ncell\t80000000\t7F7FFFFF\nsum\t0\t1\t2\n",
+        7,
+    );
+    show_records(
+        b"sheet\t64\t10\ncell\t0000000000000000\t0000000000000001\nrow\t0\t1\nsum\t0\t1\t2\n",
+        5,
+    );
+    show_records(
+        b"sheet\t64\t10\ncell\t0000000000000000\t0000000000000001\nsum\t0\t0\t1\n",
+        4,
+    );
+    show_records(b"sheet\t64\t10\nsum\t0\t1\t2", 3);
+    show_records(b"sum\t0\t1\t2\n", 2);
+    show_records(b"", 2);
+    let long = [10u8; 8193];
+    show_records(&long, 2);
+}
