@@ -1,29 +1,28 @@
 -- `reader::cursor::admit` meets its contract. Assumes nothing.
 use Rattle.reader.specs.Steps.{admitted}
-use borrow.Author.Needs.{needs}
 use Rattle.reader.proofs.cursor.admit.Statement.{statement}
 use Rattle.reader.proofs.cursor.admit.Tie as tie
 
 enum-known-l : tie.Need-enum-known-l
-enum-known-l c = search needs
+enum-known-l c = c .match .keys1
 
 head-step-requires : tie.Need-head-step-requires
 head-step-requires c κs = tt
 
 enum-known-l-2 : tie.Need-enum-known-l-2
-enum-known-l-2 c = search needs
+enum-known-l-2 c = c .match .keys2
 
 cell-step-requires : tie.Need-cell-step-requires
 cell-step-requires c κs = tt
 
 enum-known-l-3 : tie.Need-enum-known-l-3
-enum-known-l-3 c = search needs
+enum-known-l-3 c = c .match .keys3
 
 sum-step-requires : tie.Need-sum-step-requires
 sum-step-requires c κs = tt
 
 enum-told : tie.Need-enum-told
-enum-told c = search needs
+enum-told c = c .match .keys4
 
 refuse-at-requires : tie.Need-refuse-at-requires
 refuse-at-requires c κs = tt

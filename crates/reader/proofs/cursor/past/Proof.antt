@@ -1,22 +1,21 @@
 -- `reader::cursor::past` meets its contract: each arm is a case of the step. Assumes nothing.
-use borrow.Author.Needs.{needs}
 use Rattle.reader.proofs.cursor.past.Statement.{statement}
 use Rattle.reader.proofs.cursor.past.Tie as tie
 
 enum-known-step : tie.Need-enum-known-step
-enum-known-step c = search needs
+enum-known-step c = c .match .keys1
 
 enum-known-step-2 : tie.Need-enum-known-step-2
-enum-known-step-2 c = search needs
+enum-known-step-2 c = c .match .keys2
 
 enum-known-step-3 : tie.Need-enum-known-step-3
-enum-known-step-3 c = search needs
+enum-known-step-3 c = c .match .keys3
 
 enum-told : tie.Need-enum-told
-enum-told c = search needs
+enum-told c = c .match .keys4
 
 enum-told-2 : tie.Need-enum-told-2
-enum-told-2 c = search needs
+enum-told-2 c = c .match .keys5
 
 returns : tie.Need-returns
 returns c = rw (c .before .step .given .1)

@@ -1,24 +1,23 @@
 -- `reader::line::cell_from` meets its contract. Assumes nothing.
 use Rattle.reader.specs.Lines.{cellFrom}
-use borrow.Author.Needs.{needs}
 use Rattle.reader.proofs.line.cell_from.Statement.{statement}
 use Rattle.reader.proofs.line.cell_from.Tie as tie
 
 enum-known-l : tie.Need-enum-known-l
-enum-known-l c = search needs
+enum-known-l c = c .match .keys1
 
 enum-told : tie.Need-enum-told
-enum-told c = search needs
+enum-told c = c .match .keys2
 
 returns : tie.Need-returns
 unfolding cellFrom
 returns c = rw (c .enum-told .given .1)
 
 enum-known-h : tie.Need-enum-known-h
-enum-known-h c = search needs
+enum-known-h c = c .match2 .keys1
 
 enum-told-2 : tie.Need-enum-told-2
-enum-told-2 c = search needs
+enum-told-2 c = c .match2 .keys2
 
 returns-2 : tie.Need-returns-2
 unfolding cellFrom

@@ -1,24 +1,23 @@
 -- `reader::line::head_from` meets its contract. Assumes nothing.
 use Rattle.reader.specs.Lines.{headFrom}
-use borrow.Author.Needs.{needs}
 use Rattle.reader.proofs.line.head_from.Statement.{statement}
 use Rattle.reader.proofs.line.head_from.Tie as tie
 
 enum-known-w : tie.Need-enum-known-w
-enum-known-w c = search needs
+enum-known-w c = c .match .keys1
 
 enum-told : tie.Need-enum-told
-enum-told c = search needs
+enum-told c = c .match .keys2
 
 returns : tie.Need-returns
 unfolding headFrom
 returns c = rw (c .enum-told .given .1)
 
 enum-known-m : tie.Need-enum-known-m
-enum-known-m c = search needs
+enum-known-m c = c .match2 .keys1
 
 enum-told-2 : tie.Need-enum-told-2
-enum-told-2 c = search needs
+enum-told-2 c = c .match2 .keys2
 
 returns-2 : tie.Need-returns-2
 unfolding headFrom

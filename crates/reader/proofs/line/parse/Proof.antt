@@ -1,7 +1,7 @@
 -- `reader::line::parse` meets its contract. Assumes nothing.
+use mathlib.Core.Path.{refl}
 use Rattle.reader.specs.Lines.{lineOf}
 use borrow.Author.Tests.{eq-eqb, ne-eqb}
-use borrow.Author.Needs.{needs}
 use Rattle.reader.proofs.line.parse.Statement.{statement}
 use Rattle.reader.proofs.line.parse.Tie as tie
 
@@ -12,7 +12,7 @@ past-requires : tie.Need-past-requires
 past-requires c κs = tt
 
 slice-aggregate-same : tie.Need-slice-aggregate-same
-slice-aggregate-same c = search needs
+slice-aggregate-same c = refl
 
 same-requires : tie.Need-same-requires
 same-requires c κs = tt
@@ -29,7 +29,7 @@ unfolding lineOf
 returns-2 c = rw (eq-eqb _ _ (c .before .before .before .if1 .taken), ← c .before .before .before .before .before .until .ensures, ← c .before .same .ensures, c .if2 .left)
 
 slice-aggregate-same-2 : tie.Need-slice-aggregate-same-2
-slice-aggregate-same-2 c = search needs
+slice-aggregate-same-2 c = refl
 
 same-requires-2 : tie.Need-same-requires-2
 same-requires-2 c κs = tt
@@ -42,7 +42,7 @@ unfolding lineOf
 returns-3 c = rw (ne-eqb _ _ (c .before .before .before .before .if1 .left), ← c .before .before .before .before .before .before .until .ensures, ← c .before .before .same2 .ensures, c .before .if3 .taken, ← c .before .before .before .before .before .past .ensures) (c .cell-in .ensures)
 
 slice-aggregate-same-3 : tie.Need-slice-aggregate-same-3
-slice-aggregate-same-3 c = search needs
+slice-aggregate-same-3 c = refl
 
 same-requires-3 : tie.Need-same-requires-3
 same-requires-3 c κs = tt

@@ -1,34 +1,33 @@
 -- `reader::line::sum_from` meets its contract. Assumes nothing.
 use Rattle.reader.specs.Lines.{sumFrom}
-use borrow.Author.Needs.{needs}
 use Rattle.reader.proofs.line.sum_from.Statement.{statement}
 use Rattle.reader.proofs.line.sum_from.Tie as tie
 
 enum-known-i : tie.Need-enum-known-i
-enum-known-i c = search needs
+enum-known-i c = c .match .keys1
 
 enum-told : tie.Need-enum-told
-enum-told c = search needs
+enum-told c = c .match .keys2
 
 returns : tie.Need-returns
 unfolding sumFrom
 returns c = rw (c .enum-told .given .1)
 
 enum-known-j : tie.Need-enum-known-j
-enum-known-j c = search needs
+enum-known-j c = c .match2 .keys1
 
 enum-told-2 : tie.Need-enum-told-2
-enum-told-2 c = search needs
+enum-told-2 c = c .match2 .keys2
 
 returns-2 : tie.Need-returns-2
 unfolding sumFrom
 returns-2 c = rw (c .before .before .before .i .given .1, c .enum-told2 .given .1)
 
 enum-known-k : tie.Need-enum-known-k
-enum-known-k c = search needs
+enum-known-k c = c .match3 .keys1
 
 enum-told-3 : tie.Need-enum-told-3
-enum-told-3 c = search needs
+enum-told-3 c = c .match3 .keys2
 
 returns-3 : tie.Need-returns-3
 unfolding sumFrom

@@ -3,7 +3,6 @@ use mathlib.Core.Path.{sym}
 use lib.ListN.{length}
 use Prim.Native.Nat.{_-_}
 use Rattle.reader.proofs.Following.{Reading, begun, follows}
-use borrow.Author.Needs.{needs}
 use Rattle.reader.proofs.read.read.Statement.{statement}
 use Rattle.reader.proofs.read.read.Tie as tie
 
@@ -26,7 +25,7 @@ next-requires : tie.Need-next-requires Inv-loop μ-loop
 next-requires c κs = tt
 
 enum-known-width : tie.Need-enum-known-width Inv-loop μ-loop
-enum-known-width c = search needs
+enum-known-width c = c .match .keys1
 
 open-requires : tie.Need-open-requires Inv-loop μ-loop
 open-requires c κs = tt
@@ -38,7 +37,7 @@ loop-again : tie.Need-loop-again Inv-loop μ-loop
 loop-again c = rw (c .before .«open» .ensures) ((rw (← c .before .before .before .before .before .next .ensures, c .before .before .before .width .given .1) at (follows (c .before .before .before .before .before .before .loop .inv))) .reading)
 
 enum-known-cell : tie.Need-enum-known-cell Inv-loop μ-loop
-enum-known-cell c = search needs
+enum-known-cell c = c .match .keys2
 
 add-cell-requires : tie.Need-add-cell-requires Inv-loop μ-loop
 add-cell-requires c κs = tt
@@ -50,7 +49,7 @@ loop-again-2 : tie.Need-loop-again-2 Inv-loop μ-loop
 loop-again-2 c = rw (c .before .add-cell .ensures) ((rw (← c .before .before .before .before .before .next .ensures, c .before .before .before .cell .given .1) at (follows (c .before .before .before .before .before .before .loop .inv))) .reading)
 
 enum-known-sum : tie.Need-enum-known-sum Inv-loop μ-loop
-enum-known-sum c = search needs
+enum-known-sum c = c .match .keys3
 
 add-sum-requires : tie.Need-add-sum-requires Inv-loop μ-loop
 add-sum-requires c κs = tt
@@ -62,13 +61,13 @@ loop-again-3 : tie.Need-loop-again-3 Inv-loop μ-loop
 loop-again-3 c = rw (c .before .add-sum .ensures) ((rw (← c .before .before .before .before .before .next .ensures, c .before .before .before .sum .given .1) at (follows (c .before .before .before .before .before .before .loop .inv))) .reading)
 
 enum-told : tie.Need-enum-told Inv-loop μ-loop
-enum-told c = search needs
+enum-told c = c .match .keys4
 
 returns : tie.Need-returns Inv-loop μ-loop
 returns c = sym (rw (← c .before .before .next .ensures, c .enum-told .given .1) at (follows (c .before .before .before .loop .inv)))
 
 enum-known-r : tie.Need-enum-known-r Inv-loop μ-loop
-enum-known-r c = search needs
+enum-known-r c = c .match .keys5
 
 blank-sheet-requires-2 : tie.Need-blank-sheet-requires-2 Inv-loop μ-loop
 blank-sheet-requires-2 c κs = tt
