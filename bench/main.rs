@@ -3,7 +3,7 @@
 //! its intervals, of a run with its sums and passes.
 //!
 //! Usage: bench PROGRAM, the program `narrow`. Both sides get the same input and must give the same answers. Each figure is the
-//! best of several rounds; the result buffers are not cleared between calls.
+//! best of several rounds in which the sides take turns; the result buffers are not cleared between calls.
 
 #[path = "../tests/common/cases.rs"]
 mod cases;
@@ -32,7 +32,7 @@ use std::time::Instant;
 use words::Words;
 
 const CASES: usize = 2_000;
-const ROUNDS: usize = 15;
+const ROUNDS: usize = 300;
 
 type Call = fn(u64, [u64; 6], &mut [u8]) -> u64;
 
@@ -61,20 +61,27 @@ fn cancellation<W: Width>(words: &mut Words) -> [Range; 3] {
     [x, a, cases::about_sum::<W>(words, x, a, 8)]
 }
 
-/// Best nanoseconds a call over all cases, and the sum of the answers.
-fn time(call: Call, width: u64, cases: &[[u64; 6]]) -> (f64, u64) {
-    let mut result = [0u8; 48];
-    let (mut best, mut check) = (f64::MAX, 0u64);
-    for _ in 0..ROUNDS {
-        check = 0;
-        let start = Instant::now();
-        for ends in cases {
-            let answer = call(width, black_box(*ends), &mut result);
-            check = check.wrapping_mul(31).wrapping_add(answer ^ u64::from_le_bytes(result[..8].try_into().unwrap()));
+/// The best figure of each side over several rounds. The sides take turns, so that all meet the same state of the machine.
+pub fn best<const N: usize>(rounds: usize, mut sides: [&mut dyn FnMut() -> f64; N]) -> [f64; N] {
+    let mut best = [f64::MAX; N];
+    for _ in 0..rounds {
+        for (best, side) in best.iter_mut().zip(&mut sides) {
+            *best = best.min(side());
         }
-        best = best.min(start.elapsed().as_nanos() as f64 / cases.len() as f64);
     }
-    (best, black_box(check))
+    best
+}
+
+/// Nanoseconds a call over all cases, and the answers folded into one number.
+fn round(call: Call, width: u64, cases: &[[u64; 6]]) -> (f64, u64) {
+    let mut result = [0u8; 48];
+    let mut check = 0u64;
+    let start = Instant::now();
+    for ends in cases {
+        let answer = call(width, black_box(*ends), &mut result);
+        check = check.wrapping_mul(31).wrapping_add(answer ^ u64::from_le_bytes(result[..8].try_into().unwrap()));
+    }
+    (start.elapsed().as_nanos() as f64 / cases.len() as f64, black_box(check))
 }
 
 /// A line with the library's nanoseconds, those of what it is held to, and their ratio.
@@ -89,9 +96,13 @@ pub fn report(what: &str, library: f64, baseline: f64) {
 fn narrowing<W: Width>(mix: &str, make: impl Fn(&mut Words) -> [Range; 3]) {
     let mut words = Words(0x9E37_79B9_7F4A_7C15);
     let cases: Vec<[u64; 6]> = (0..CASES).map(|_| ends::patterns::<W>(make(&mut words))).collect();
-    let (library, answers) = time(tazsmibor::entry, W::BITS, &cases);
-    let (baseline, expected) = time(baseline::call, W::BITS, &cases);
-    assert_eq!(answers, expected, "{mix}: the baseline answers otherwise");
+    assert_eq!(
+        round(tazsmibor::entry, W::BITS, &cases).1,
+        round(baseline::call, W::BITS, &cases).1,
+        "{mix}: the baseline answers otherwise"
+    );
+    let [library, baseline] =
+        best(ROUNDS, [&mut || round(tazsmibor::entry, W::BITS, &cases).0, &mut || round(baseline::call, W::BITS, &cases).0]);
     report(&format!("narrowing, width {}, {mix}", W::BITS), library, baseline);
 }
 

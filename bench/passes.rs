@@ -4,13 +4,13 @@
 //! A part of the sheet counts upward: each pass moves ends by a few floats, so a run makes all the passes that its limit
 //! allows. The time of a run of one pass is taken off, and with it the start of the program and the reading of the text.
 
-use crate::{report, report_beside, sheet, tazsmibor, time};
+use crate::{best, report, report_beside, round, sheet, tazsmibor};
 use std::io::Write;
 use std::process::{Command, Stdio};
 use std::time::Instant;
 
 const PASSES: usize = 1_000;
-const ROUNDS: usize = 9;
+const ROUNDS: usize = 30;
 
 struct Sheet {
     cells: Vec<[u64; 2]>,
@@ -89,44 +89,57 @@ fn run(program: &str, text: &str) -> String {
     String::from_utf8(child.wait_with_output().expect("bench: no output").stdout).expect("bench: not text")
 }
 
-/// Best nanoseconds for a text, with its listing.
-fn time_listing(listing: &dyn Fn(&str) -> String, text: &str) -> (f64, String) {
-    let mut best = f64::MAX;
-    let mut printed = String::new();
-    for _ in 0..ROUNDS {
-        let start = Instant::now();
-        printed = listing(text);
-        best = best.min(start.elapsed().as_nanos() as f64);
-    }
-    (best, printed)
+/// Nanoseconds for a text, with its listing.
+fn time(listing: &dyn Fn(&str) -> String, text: &str) -> (f64, String) {
+    let start = Instant::now();
+    let printed = listing(text);
+    (start.elapsed().as_nanos() as f64, printed)
 }
 
-fn per_pass(listing: &dyn Fn(&str) -> String, sheet: &Sheet, passes: usize) -> (f64, String) {
-    let (one, _) = time_listing(listing, &sheet.text(1));
-    let (all, printed) = time_listing(listing, &sheet.text(1 + passes));
-    assert!(printed.starts_with(&format!("stopped\t{}\n", 1 + passes)), "bench: the sheet settles early: {printed}");
-    ((all - one) / passes as f64, printed)
+/// The listing of a run that makes all the passes of its limit.
+fn stopped(listing: &dyn Fn(&str) -> String, sheet: &Sheet, limit: usize) -> String {
+    let printed = listing(&sheet.text(limit));
+    assert!(printed.starts_with(&format!("stopped\t{limit}\n")), "bench: the sheet settles early: {printed}");
+    printed
 }
 
 pub fn pass(program: &str) {
     let what = "a pass of 64 cells and 128 sums, width 64";
     let mut sheet = Sheet::new(128);
-    let (library, printed) = per_pass(&|text| run(program, text), &sheet, PASSES);
-    let (baseline, expected) = per_pass(&|text| sheet::listing(text.as_bytes()), &sheet, PASSES);
-    assert_eq!(printed, expected, "bench: the program and the reference print different listings");
-    report(what, library, baseline);
+    let library = |text: &str| run(program, text);
+    let reference = |text: &str| sheet::listing(text.as_bytes());
+    let printed = stopped(&library, &sheet, 1 + PASSES);
+    assert_eq!(printed, reference(&sheet.text(1 + PASSES)), "bench: the program and the reference print different listings");
 
+    let (one, all) = (sheet.text(1), sheet.text(1 + PASSES));
     sheet.pass();
     let narrowings: Vec<[u64; 6]> = (0..PASSES).flat_map(|_| sheet.pass()).collect();
     assert!(printed.ends_with(&sheet.lines()), "bench: the C entry and the program leave different cells");
-    let (narrowing, _) = time(tazsmibor::entry, 64, &narrowings);
-    report_beside(what, library, "its 128 narrowings", 128.0 * narrowing);
+
+    let [short, long, short_baseline, long_baseline, narrowing] = best(
+        ROUNDS,
+        [
+            &mut || time(&library, &one).0,
+            &mut || time(&library, &all).0,
+            &mut || time(&reference, &one).0,
+            &mut || time(&reference, &all).0,
+            &mut || round(tazsmibor::entry, 64, &narrowings).0,
+        ],
+    );
+    let per_pass = |short: f64, long: f64| (long - short) / PASSES as f64;
+    report(what, per_pass(short, long), per_pass(short_baseline, long_baseline));
+    report_beside(what, per_pass(short, long), "its 128 narrowings", 128.0 * narrowing);
 }
 
 /// A pass by its sums, and by how many passes the run makes.
 pub fn growth(program: &str) {
-    for (sums, passes) in [(32, PASSES), (64, PASSES), (128, PASSES), (128, 4 * PASSES), (128, 16 * PASSES)] {
-        let (library, _) = per_pass(&|text| run(program, text), &Sheet::new(sums), passes);
-        println!("a pass of {sums} sums, one of {passes}: library {library:.1} ns, {:.1} ns a sum", library / sums as f64);
+    let library = |text: &str| run(program, text);
+    for (sums, passes) in [(64, PASSES), (96, PASSES), (128, PASSES), (128, 4 * PASSES), (128, 16 * PASSES)] {
+        let sheet = Sheet::new(sums);
+        stopped(&library, &sheet, 1 + passes);
+        let (one, all) = (sheet.text(1), sheet.text(1 + passes));
+        let [short, long] = best(ROUNDS, [&mut || time(&library, &one).0, &mut || time(&library, &all).0]);
+        let figure = (long - short) / passes as f64;
+        println!("a pass of {sums} sums, one of {passes}: library {figure:.1} ns, {:.1} ns a sum", figure / sums as f64);
     }
 }

@@ -2,13 +2,15 @@
 
 use crate::cases;
 use crate::floats::Width;
-use crate::report;
+use crate::{best, report};
 use crate::words::Words;
 use std::hint::black_box;
 use std::time::Instant;
 
 const PAIRS: usize = 4_000;
-const ROUNDS: usize = 25;
+const ROUNDS: usize = 1_000;
+
+type Add = fn(u64, u64, u64, &mut [u64; 2]) -> u64;
 
 unsafe extern "C" {
     fn bench_add(width: u64, x: u64, a: u64, out: *mut [u64; 2]) -> u64;
@@ -61,20 +63,16 @@ fn software_add(width: u64, x: u64, a: u64, out: &mut [u64; 2]) -> u64 {
     0
 }
 
-/// Best nanoseconds a sum, and all answers folded into one number.
-fn time(add: fn(u64, u64, u64, &mut [u64; 2]) -> u64, width: u64, pairs: &[[u64; 2]]) -> (f64, u64) {
-    let (mut best, mut check) = (f64::MAX, 0u64);
-    for _ in 0..ROUNDS {
-        let mut out = [0; 2];
-        check = 0;
-        let start = Instant::now();
-        for [x, a] in pairs {
-            let answer = add(width, black_box(*x), black_box(*a), &mut out);
-            check = check.wrapping_mul(31).wrapping_add(answer ^ out[0] ^ out[1]);
-        }
-        best = best.min(start.elapsed().as_nanos() as f64 / pairs.len() as f64);
+/// Nanoseconds a sum over all pairs, and the answers folded into one number.
+fn round(add: Add, width: u64, pairs: &[[u64; 2]]) -> (f64, u64) {
+    let mut out = [0; 2];
+    let mut check = 0u64;
+    let start = Instant::now();
+    for [x, a] in pairs {
+        let answer = add(width, black_box(*x), black_box(*a), &mut out);
+        check = check.wrapping_mul(31).wrapping_add(answer ^ out[0] ^ out[1]);
     }
-    (best, black_box(check))
+    (start.elapsed().as_nanos() as f64 / pairs.len() as f64, black_box(check))
 }
 
 /// Operands of every placement of the differential test.
@@ -85,8 +83,12 @@ pub fn sums<W: Width>() {
         [x, a].map(|p| W::pattern(p.clamp(-W::LARGEST, W::LARGEST)))
     };
     let pairs: Vec<[u64; 2]> = (0..PAIRS).map(&mut pair).collect();
-    let (library, answers) = time(library_add, W::BITS, &pairs);
-    let (baseline, expected) = time(software_add, W::BITS, &pairs);
-    assert_eq!(answers, expected, "the software addition answers otherwise");
+    assert_eq!(
+        round(library_add, W::BITS, &pairs).1,
+        round(software_add, W::BITS, &pairs).1,
+        "the software addition answers otherwise"
+    );
+    let [library, baseline] =
+        best(ROUNDS, [&mut || round(library_add, W::BITS, &pairs).0, &mut || round(software_add, W::BITS, &pairs).0]);
     report(&format!("sum, width {}", W::BITS), library, baseline);
 }
