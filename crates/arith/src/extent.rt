@@ -1,4 +1,5 @@
 // From the least to the greatest x, a and b in a triple. The greatest is the mirror image of the least of the mirrored ranges.
+ghost use Prim.Native.Nat.{_≤_, _<_};
 ghost use Rattle.arith.specs.Formats.{Sound};
 ghost use Rattle.arith.specs.Intervals.{Ends};
 ghost use Rattle.arith.specs.Searches.{LeastOf, Spans, OutermostOf, HasX, HasB};
@@ -86,21 +87,35 @@ pub(crate) fn extent_a(format: Format, x: Range, a: Range, b: Range, p: u64, q: 
     }
 }
 
-// The least b in a triple by search, where b's high end stands in one: what is below is asked for, first all of it, until nothing is.
+// Up to where to ask next, from low up to, and without, high: first at low alone where much is left, then for all, then for the lower half.
+fn question(low: u64, high: u64, first: bool, near: bool) -> u64
+    requires { ⌜ low < high ⌝ }
+    ensures { λ r. ⌜ (low ≤ r) × (r < high) ⌝ }
+{
+    if first {
+        if 16 < high - low {
+            return low;
+        }
+    }
+    if near {
+        return high - 1;
+    }
+    low + (high - low) / 2
+}
+
+// The least b in a triple by search, where b's high end stands in one: what is below is asked for until nothing is.
 fn search_b(format: Format, x: Range, a: Range, b: Range) -> u64
     requires { ⌜ (Sound format) × (Ends format x) × (Ends format a) × (Ends format b) × (HasB format x a b (b .high)) ⌝ }
     ensures { λ r. ⌜ LeastOf (HasB format x a b) (Found.At r) ⌝ }
 {
     let mut low = b.low;
     let mut high = b.high;
+    let mut first = true;
     let mut near = true;
     while low < high {
-        let middle = if near {
-            high - 1
-        } else {
-            low + (high - low) / 2
-        };
-        near = !near;
+        let middle = question(low, high, first, near);
+        near = first;
+        first = false;
         match least_x(format, x, a, Range { low, high: middle }) {
             Pair::At { x: p, a: q } => high = add_ordinals(format, p, q),
             Pair::Absent => low = middle + 1,

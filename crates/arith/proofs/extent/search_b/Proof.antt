@@ -1,5 +1,4 @@
 -- `arith::extent::search_b` meets its contract: the loop's invariant is the bracket around the least sum. Assumes nothing.
-use mathlib.Core.Logic.{⊎-elim}
 use Prim.Native.Nat.{_-_, _≤_, _<_}
 use native.Mathlib.Nat.{le-refl}
 use native.Mathlib.Omega.{arith}
@@ -15,18 +14,14 @@ use Rattle.arith.proofs.extent.search_b.Statement.{statement}
 use Rattle.arith.proofs.extent.search_b.Tie as tie
 
 abbrev Inv-loop : tie.InvT-loop
-Inv-loop format x a low₀ high₀ near₀ low high near = (low₀ ≤ low) × Bracket (HasB format x a (record { low = low₀; high = high₀ })) low high
+Inv-loop format x a low₀ high₀ first₀ near₀ low high first near = (low₀ ≤ low) × Bracket (HasB format x a (record { low = low₀; high = high₀ })) low high
 
 abbrev μ-loop : tie.MeasureT-loop
-μ-loop format x a low₀ high₀ near₀ low high near = high - low
+μ-loop format x a low₀ high₀ first₀ near₀ low high first near = high - low
 
 -- the triple of a turn
-found : (c : tie.After-known-told Inv-loop μ-loop) → let z = c .before .before .before .before .before .before .before .args in LeadingOf (z .format) (z .x) (z .a) (record { low = c .before .before .before .before .before .before .loop .low; high = c .before .before .before .before .if1 .middle }) (Pair.At (c .before .p .given .0 .0) (c .before .p .given .0 .1 .0))
+found : (c : tie.After-known-told Inv-loop μ-loop) → let z = c .before .before .before .before .before .before .before .args in LeadingOf (z .format) (z .x) (z .a) (record { low = c .before .before .before .before .before .before .loop .low; high = c .before .before .before .before .question .result }) (Pair.At (c .before .p .given .0 .0) (c .before .p .given .0 .1 .0))
 found c = rw (c .before .p .given .1) at (c .before .before .before .least-x .ensures)
-
--- the middle lies between the ends
-middle-in : (c : tie.Joined1 Inv-loop μ-loop) → (c .before .before .loop .low ≤ c .if1 .middle) × (c .if1 .middle < c .before .before .loop .high)
-middle-in c = ⊎-elim (λ w. (omega arith, omega arith)) (λ w. (omega arith, omega arith)) (c .if1 .came)
 
 -- a turn that finds a triple
 lowered : (c : tie.After-add-ordinals Inv-loop μ-loop) → let z = c .before .before .before .before .before .before .before .before .args in let v = c .before .before .before .before .before .before .before .loop in Bracket (HasB (z .format) (z .x) (z .a) (z .b)) (v .low) (c .add-ordinals .result) × (c .add-ordinals .result < v .high)
@@ -34,24 +29,18 @@ lowered c =
     let z = c .before .before .before .before .before .before .before .before in
     let F = z .args .format in
     let v = c .before .before .before .before .before .before .before .loop in
-    sums-lower (F .fraction) (F .exponent) (span (z .args .x)) (span (z .args .a)) (span (z .args .b)) (v .low) (v .high) (c .before .before .before .before .before .if1 .middle) (v .inv .1) _ _ (c .add-ordinals .result) (v .inv .0) (middle-in (c .before .before .before .before .before) .1) (found (c .before)) (c .add-ordinals .ensures)
+    sums-lower (F .fraction) (F .exponent) (span (z .args .x)) (span (z .args .a)) (span (z .args .b)) (v .low) (v .high) (c .before .before .before .before .before .question .result) (v .inv .1) _ _ (c .add-ordinals .result) (v .inv .0) (c .before .before .before .before .before .question .ensures .1) (found (c .before)) (c .add-ordinals .ensures)
 
 loop-holds : tie.Need-loop-holds Inv-loop μ-loop
 loop-holds c = let F = c .args .format in (le-refl _, sums-start (F .fraction) (F .exponent) (span (c .args .x)) (span (c .args .a)) (span (c .args .b)) _ (c .pre .4))
 
-sub-middle : tie.Need-sub-middle Inv-loop μ-loop
-sub-middle c = omega arith
-
-sub-middle-2 : tie.Need-sub-middle-2 Inv-loop μ-loop
-sub-middle-2 c = omega arith
-
-add-middle : tie.Need-add-middle Inv-loop μ-loop
-add-middle c = omega arith
+question-requires : tie.Need-question-requires Inv-loop μ-loop
+question-requires c κs = omega arith
 
 least-x-requires : tie.Need-least-x-requires Inv-loop μ-loop
 least-x-requires c κs =
     let z = c .before .before .before in
-    let m = middle-in c in
+    let m = c .question .ensures in
     let i = c .before .before .loop .inv in
     let h = i .1 .holds .solution .b-in in
     (z .pre .0, z .pre .1, z .pre .2, record { low = record { low = omega arith; high = omega arith }; high = record { low = omega arith; high = omega arith } })
@@ -76,18 +65,18 @@ enum-told : tie.Need-enum-told Inv-loop μ-loop
 enum-told c = search needs
 
 add-low : tie.Need-add-low Inv-loop μ-loop
-add-low c = let m = middle-in (c .before .before .before .before) in omega arith
+add-low c = let m = c .before .before .before .question .ensures in omega arith
 
 loop-less-2 : tie.Need-loop-less-2 Inv-loop μ-loop
-loop-less-2 c = let m = middle-in (c .before .before .before .before) in omega arith
+loop-less-2 c = let m = c .before .before .before .question .ensures in omega arith
 
 loop-again-2 : tie.Need-loop-again-2 Inv-loop μ-loop
 loop-again-2 c =
-    let z = c .before .before .before .before .before .before .before in
+    let z = c .before .before .before .before .before .before in
     let F = z .args .format in
-    let v = c .before .before .before .before .before .before .loop in
-    let m = middle-in (c .before .before .before .before) in
-    let n : LeadingOf F (z .args .x) (z .args .a) (record { low = v .low; high = c .before .before .before .before .if1 .middle }) Pair.Absent = rw (c .before .enum-told .given .1) at (c .before .before .before .least-x .ensures) in
+    let v = c .before .before .before .before .before .loop in
+    let m = c .before .before .before .question .ensures in
+    let n : LeadingOf F (z .args .x) (z .args .a) (record { low = v .low; high = c .before .before .before .question .result }) Pair.Absent = rw (c .enum-told .given .1) at (c .before .before .least-x .ensures) in
     (omega (arith, v .inv .0), sums-raise (F .fraction) (F .exponent) (span (z .args .x)) (span (z .args .a)) (span (z .args .b)) (v .low) (v .high) _ (v .inv .1) n)
 
 returns : tie.Need-returns Inv-loop μ-loop
@@ -100,9 +89,7 @@ search-b-spec =
     Inv-loop
     μ-loop
     loop-holds
-    sub-middle
-    sub-middle-2
-    add-middle
+    question-requires
     least-x-requires
     enum-known-p
     add-ordinals-requires
