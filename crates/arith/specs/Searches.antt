@@ -9,7 +9,7 @@ use Rattle.arith.specs.declared.range.Range.{Range}
 use Rattle.arith.specs.declared.operand.Found.{Found}
 use Rattle.arith.specs.declared.operand.Found.the-variants as Found
 use Rattle.arith.specs.declared.solve.Trial.{Trial}
-use Rattle.arith.specs.declared.solve.Trial.the-variants.{Fits, Above, Below}
+use Rattle.arith.specs.declared.solve.Trial.the-variants.{Fits, Above, Below, Past}
 use Rattle.arith.specs.declared.solve.Turn.{Turn}
 use Rattle.arith.specs.declared.solve.Turn.the-variants.{Solved, Ended, Next}
 use Rattle.arith.specs.declared.solve.Pair.{Pair}
@@ -52,11 +52,12 @@ abbrev pub Frontier : Format → Range → Range → Range → ℕ → Type 0
 Frontier F X A B = S.Frontier (F .fraction) (F .exponent) (span X) (span A) (span B)
 
 -- ---- the least x in a triple
--- x tried with the ends of A: an a whose sum with x is inside B, or the low end's sum is above B, or below
+-- x tried with A: an a whose sum with x is inside B; the low end's sum is above B; the high end's is below; or the least a that makes the sum large enough makes it too large, and A's low end is below it
 abbrev pub TrialOf : Format → Range → Range → ℕ → Trial → Type 0
 TrialOf F A B x (Fits a) = S.Partner (F .fraction) (F .exponent) (span A) (span B) x a
 TrialOf F A B x Above = B .high < sum F x (A .low)
-TrialOf F A B x Below = sum F x (A .low) < B .low
+TrialOf F A B x Below = sum F x (A .high) < B .low
+TrialOf F A B x (Past a) = S.Least (Attains F x (B .low) A) a × (B .high < sum F x a) × (sum F x (A .low) < B .low)
 
 -- one turn of the search at the frontier x: x stands in a triple with this a, or there is no triple, or a higher frontier
 abbrev pub TurnOf : Format → Range → Range → Range → ℕ → Turn → Type 0

@@ -1,4 +1,4 @@
-// The least x in a triple, with an a that goes with it: x's low end if it stands in one with an end of a. Else the search starts at the least x that reaches b's low end with a's high end, and jumps from there over what cannot be.
+// The least x in a triple, with an a that goes with it: x's low end if it stands in one. Else the search starts at the least x that reaches b's low end with a's high end, and jumps from there over what cannot be.
 ghost use Prim.Native.Nat.{_≤_, _<_};
 ghost use Rattle.arith.specs.Formats.{Sound, Finite, sum};
 ghost use Rattle.arith.specs.Intervals.{Ends};
@@ -25,16 +25,31 @@ pub(crate) enum Pair {
     Absent,
 }
 
-// How the sums of x with a's two ends lie to b: with this end in b, with the low end above b, or with the low end below b.
+// How the sums of x with the a lie to b: with this a in b; with each a above b; with each a below b; or past b at this a, and short of b before it.
 pub(crate) enum Trial {
     Fits(u64),
     Above,
     Below,
+    Past(u64),
 }
 
-// x tried with a's two ends, the high one first.
-fn try_ends(format: Format, at: u64, a: Range, b: Range) -> Trial
-    requires { ⌜ (Sound format) × (Finite format at) × (Ends format a) × (a .low ≤ a .high) ⌝ }
+// x tried with the least a that makes the sum large enough.
+fn try_between(format: Format, at: u64, a: Range, b: Range) -> Trial
+    requires { ⌜ (Sound format) × (Finite format at) × (Ends format a) × (Finite format (b .low)) × (a .low ≤ a .high) × (sum format at (a .low) < b .low) ⌝ }
+    ensures { λ r. ⌜ TrialOf format a b at r ⌝ }
+{
+    let Found::At(c) = least_operand(format, at, b.low, a) else {
+        return Trial::Below;
+    };
+    if add_ordinals(format, at, c) <= b.high {
+        return Trial::Fits(c);
+    }
+    Trial::Past(c)
+}
+
+// x tried with a's two ends, the high one first, then with what is between.
+fn try_operand(format: Format, at: u64, a: Range, b: Range) -> Trial
+    requires { ⌜ (Sound format) × (Finite format at) × (Ends format a) × (Ends format b) × (a .low ≤ a .high) ⌝ }
     ensures { λ r. ⌜ TrialOf format a b at r ⌝ }
 {
     let top = add_ordinals(format, at, a.high);
@@ -45,26 +60,20 @@ fn try_ends(format: Format, at: u64, a: Range, b: Range) -> Trial
         return Trial::Fits(a.high);
     }
     let bottom = add_ordinals(format, at, a.low);
-    if bottom < b.low {
-        return Trial::Below;
+    if b.high < bottom {
+        return Trial::Above;
     }
-    if bottom <= b.high {
+    if b.low <= bottom {
         return Trial::Fits(a.low);
     }
-    Trial::Above
+    try_between(format, at, a, b)
 }
 
-// The turn at x where a's low end makes too small a sum: the least a that makes it large enough may make it too large, and then x is too small for the a below it.
-fn jump(format: Format, at: u64, x: Range, a: Range, b: Range) -> Turn
-    requires { ⌜ (Sound format) × (Ends format x) × (Ends format a) × (Ends format b) × (Frontier format x a b at) × (sum format at (a .low) < b .low) ⌝ }
+// The turn at x whose sum is past b at c and short of b before it: x is too small for the a below c.
+fn jump(format: Format, at: u64, c: u64, x: Range, a: Range, b: Range) -> Turn
+    requires { ⌜ (Sound format) × (Ends format x) × (Ends format a) × (Ends format b) × (Frontier format x a b at) × (TrialOf format a b at (Trial.Past c)) ⌝ }
     ensures { λ r. ⌜ TurnOf format x a b at r ⌝ }
 {
-    let Found::At(c) = least_operand(format, at, b.low, a) else {
-        return Turn::Ended;
-    };
-    if add_ordinals(format, at, c) <= b.high {
-        return Turn::Solved(c);
-    }
     let rest = Range {
         low: at,
         high: x.high,
@@ -75,15 +84,16 @@ fn jump(format: Format, at: u64, x: Range, a: Range, b: Range) -> Turn
     }
 }
 
-// One turn at x: a's ends are tried first.
+// One turn at x.
 fn advance(format: Format, at: u64, x: Range, a: Range, b: Range) -> Turn
     requires { ⌜ (Sound format) × (Ends format x) × (Ends format a) × (Ends format b) × (a .low ≤ a .high) × (Frontier format x a b at) ⌝ }
     ensures { λ r. ⌜ TurnOf format x a b at r ⌝ }
 {
-    match try_ends(format, at, a, b) {
+    match try_operand(format, at, a, b) {
         Trial::Fits(c) => Turn::Solved(c),
         Trial::Above => Turn::Ended,
-        Trial::Below => jump(format, at, x, a, b),
+        Trial::Below => Turn::Ended,
+        Trial::Past(c) => jump(format, at, c, x, a, b),
     }
 }
 
@@ -126,7 +136,7 @@ fn search_clamped(format: Format, x: Range, a: Range, b: Range) -> Pair
     search_x(format, x, a, b)
 }
 
-// The least x in a triple: x's low end where it stands in one with an end of a, else by search.
+// The least x in a triple: x's low end where it stands in one, else by search.
 pub(crate) fn least_x(format: Format, x: Range, a: Range, b: Range) -> Pair
     requires { ⌜ (Sound format) × (Ends format x) × (Ends format a) × (Ends format b) ⌝ }
     ensures { λ r. ⌜ LeadingOf format x a b r ⌝ }
@@ -140,9 +150,9 @@ pub(crate) fn least_x(format: Format, x: Range, a: Range, b: Range) -> Pair
     if b.high < b.low {
         return Pair::Absent;
     }
-    match try_ends(format, x.low, a, b) {
+    match try_operand(format, x.low, a, b) {
         Trial::Fits(c) => Pair::At { x: x.low, a: c },
         Trial::Above => Pair::Absent,
-        Trial::Below => search_clamped(format, x, a, b),
+        _ => search_clamped(format, x, a, b),
     }
 }

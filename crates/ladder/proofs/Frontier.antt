@@ -13,6 +13,19 @@ use Rattle.ladder.proofs.Cases.{le-or-lt}
 use Rattle.ladder.proofs.Sum.{sum-comm, sum-mono}
 
 module _ (f e : ℕ) (some : 1 ≤ f) where
+  -- ---- the a that go with x
+  module _ (A B : Interval) (x : ℕ) where
+    -- none makes the sum large enough
+    pub short-of : Never (Attains f e x (B .low) A) → A .low ≤ A .high → sum f e x (A .high) < B .low
+    short-of n i = elim (le-or-lt (B .low) (sum f e x (A .high))) [
+      | inl g ↦ absurd (n (A .high) (record { inside = record { low = i; high = le-refl (A .high) }; enough = subst (λ (z : ℕ). B .low ≤ z) (sum-comm f e x (A .high)) g }))
+      | inr g ↦ g
+    ]
+
+    -- the least that does makes it not too large
+    pub least-partner : (c : ℕ) → Least (Attains f e x (B .low) A) c → sum f e x c ≤ B .high → Partner f e A B x c
+    least-partner c l h = record { inside = l .holds .inside; sum-in = record { low = omega (arith, l .holds .enough, sum-comm f e c x); high = h } }
+
   -- ---- the least x
   module _ (X A B : Interval) where
     -- an x in a triple reaches B with A's high end
@@ -41,20 +54,8 @@ module _ (f e : ℕ) (some : 1 ≤ f) where
           omega (arith, sum-mono f e some x y (A .low) (w .a) (below y w) (s .a-in .low), s .is, s .b-in .high)
 
     module _ (x : ℕ) (r : Frontier f e X A B x) where
-      -- A has no a that makes the sum large enough: then it is empty
-      pub frontier-empty : Never (Attains f e x (B .low) A) → Never (HasX f e X A B)
-      frontier-empty n y w =
-          let i = w .solution .a-in in
-          n (A .high) (record { inside = record { low = omega arith; high = le-refl (A .high) }; enough = subst (λ (z : ℕ). B .low ≤ z) (sum-comm f e x (A .high)) (r .enough) })
-
       -- c is the least a that makes the sum large enough
       module _ (c : ℕ) (l : Least (Attains f e x (B .low) A) c) where
-        pub frontier-hit : sum f e x c ≤ B .high → Leading f e X A B x c
-        frontier-hit h =
-            let g = l .holds .enough in
-            let k = sum-comm f e c x in
-            partner-leading x (r .below) (r .inside) c (record { inside = l .holds .inside; sum-in = record { low = omega arith; high = h } })
-
         pub above-low : sum f e x (A .low) < B .low → A .low < c
         above-low g = elim (le-or-lt c (A .low)) [
           | inl q ↦ absurd (omega (arith, sum-mono f e some x x c (A .low) (le-refl x) q, sum-comm f e c x, l .holds .enough))

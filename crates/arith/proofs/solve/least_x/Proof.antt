@@ -17,17 +17,14 @@ returns-2 c y w = let i = w .solution .a-in in omega arith
 returns-3 : tie.Need-returns-3
 returns-3 c y w = let i = w .solution .b-in in omega arith
 
-try-ends-requires : tie.Need-try-ends-requires
-try-ends-requires c κs = search needs
+try-operand-requires : tie.Need-try-operand-requires
+try-operand-requires c κs = search needs
 
 enum-known-c : tie.Need-enum-known-c
 enum-known-c c = search needs
 
 enum-told : tie.Need-enum-told
 enum-told c = search needs
-
-enum-told-2 : tie.Need-enum-told-2
-enum-told-2 c = search needs
 
 search-clamped-requires : tie.Need-search-clamped-requires
 search-clamped-requires c κs = search needs
@@ -36,14 +33,14 @@ returns-4 : tie.Need-returns-4
 returns-4 c =
     let z = c .before .before .before .before .before .before .before .before .before .before in
     let F = z .args .format in
-    let t : TrialOf F (z .args .a) (z .args .b) (z .args .x .low) (Fits (c .before .c .given .0 .0)) = rw (c .before .c .given .1) at (c .before .before .before .try-ends .ensures) in
+    let t : TrialOf F (z .args .a) (z .args .b) (z .args .x .low) (Fits (c .before .c .given .0 .0)) = rw (c .before .c .given .1) at (c .before .before .before .try-operand .ensures) in
     partner-leading (F .fraction) (F .exponent) (z .pre .0 .some) (span (z .args .x)) (span (z .args .a)) (span (z .args .b)) (z .args .x .low) (λ y w. w .solution .x-in .low) (record { low = le-refl _; high = omega arith }) _ t
 
 returns-5 : tie.Need-returns-5
 returns-5 c =
     let z = c .before .before .before .before .before .before .before .before .before in
     let F = z .args .format in
-    let t : TrialOf F (z .args .a) (z .args .b) (z .args .x .low) Above = rw (c .enum-told .given .1) at (c .before .before .try-ends .ensures) in
+    let t : TrialOf F (z .args .a) (z .args .b) (z .args .x .low) Above = rw (c .enum-told .given .1) at (c .before .before .try-operand .ensures) in
     past-never (F .fraction) (F .exponent) (z .pre .0 .some) (span (z .args .x)) (span (z .args .a)) (span (z .args .b)) (z .args .x .low) (λ y w. w .solution .x-in .low) t
 
 returns-6 : tie.Need-returns-6
@@ -56,10 +53,9 @@ least-x-spec =
     returns
     returns-2
     returns-3
-    try-ends-requires
+    try-operand-requires
     enum-known-c
     enum-told
-    enum-told-2
     search-clamped-requires
     returns-4
     returns-5
