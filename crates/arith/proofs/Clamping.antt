@@ -12,7 +12,6 @@ use Rattle.ladder.specs.Magnitude.{magnitude}
 use Rattle.ladder.specs.Ordinal as L
 use Rattle.ladder.specs.Solution.{Interval}
 use Rattle.ladder.specs.Search.{NoMultiple, raised}
-use Rattle.ladder.proofs.Cases.{le-or-lt}
 use Rattle.ladder.proofs.Granularity.{digits-free, binade-free}
 
 -- q whole binades fit under m

@@ -1,23 +1,22 @@
 -- Twice the midpoint of b and its lower neighbour, less twice a, as an exact difference in half units. Assumes nothing.
-use mathlib.Core.Path.{_≡_, refl, sym, ap, ap₂, _∙_, subst}
+use mathlib.Core.Path.{_≡_, sym, ap, ap₂, _∙_, subst}
 use mathlib.Core.Logic.{_⊎_, inl, inr}
-use mathlib.Core.Bool.{Bool, true, false, cond}
+use mathlib.Core.Bool.{Bool, cond}
 use Prim.Native.Nat.{ℕ, suc, _+_, _-_, _*_, _^_, _≤_, _<_}
 use native.Mathlib.Nat.{lt-of-mul-lt-mul-right}
 use native.Mathlib.Omega.{arith}
 use lib.Pow.{pow-add, pow-mono}
 use lib.Dec.{ltb, leb}
 use borrow.Author.Tests.{lt-ltb, le-ltb, le-leb, lt-leb}
-use Rattle.ladder.specs.Magnitude.{magnitude, shift, significand}
+use Rattle.ladder.specs.Magnitude.{magnitude, shift}
 use Rattle.ladder.specs.Ordinal.{above, below}
-use Rattle.ladder.specs.Search.{crossingUp, crossingDown}
 use Rattle.ladder.proofs.Cases.{le-or-lt}
 use Rattle.ladder.proofs.Magnitude.{parts, magnitude-parts, magnitude-suc, magnitude-le, magnitude-lt, shift-le}
 use Rattle.ladder.proofs.Ordinals.{infinity-lt-sign, above-none, below-none}
 use Rattle.arith.specs.declared.exact.Exact.{Exact}
 use Rattle.arith.specs.declared.format.Format.{Format}
 use Rattle.arith.specs.Formats.{Sound, Finite}
-use Rattle.arith.specs.Exacts.{exactOf, sizeOf, Shaped, Low, Amounts}
+use Rattle.arith.specs.Exacts.{exactOf, sizeOf, Shaped}
 use Rattle.arith.specs.Thresholds.{doubledOf, Crosses}
 use Rattle.arith.proofs.Decoding.{pow-gap, size-is, large, low, shaped, apart, apart-comm, signed-up, signed-down, fromZero}
 

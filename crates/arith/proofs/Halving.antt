@@ -17,7 +17,6 @@ use Rattle.ladder.proofs.Cases.{le-or-lt}
 use Rattle.ladder.proofs.Magnitude.{magnitude-zero}
 use Rattle.ladder.proofs.Digits.{size-scale, size-half}
 use Rattle.ladder.proofs.Truncation.{truncated-value, truncated-scale, truncated-magnitude}
-use Rattle.arith.specs.declared.rounding.Rounded.{Rounded}
 use Rattle.arith.specs.Exacts.{Alike, same, sticky, Fraction}
 use Rattle.arith.specs.Thresholds.{halvedOf}
 use Rattle.arith.proofs.Roundings.{inexact}

@@ -105,9 +105,6 @@ module _ (f : ℕ) (e : Exact) (ok : Digits f) (h : Shaped f e) where
       subst (Scales f e) (sym (R ∙ ap (λ (x : ℕ). joinedOf (e .opposite) x (e .smaller) (e .shift)) U))
       (record { alike = same refl; low = omega arith })
 
-  abbrev jammed : ℕ → ℕ
-  jammed d = 2 * (e .smaller / 2 ^ d) + min (e .smaller % 2 ^ d) 1
-
   pub far-fits : (k s : ℕ) → k ≤ e .smaller → s ≤ 1 → 16 * e .larger + (2 * k + s) < 2 ^ 64
   far-fits k s l m = omega (arith, few, h .larger, h .smaller)
 

@@ -2,7 +2,7 @@
 use mathlib.Core.Path.{_≡_, sym, ap, _∙_, subst}
 use mathlib.Core.Logic.{_⊎_, inl, inr}
 use mathlib.Core.Bool.{Bool, true, false, cond}
-use Prim.Native.Nat.{ℕ, _+_, _-_, _*_, _/_, _%_, _^_, _≤_, _<_}
+use Prim.Native.Nat.{ℕ, _+_, _-_, _*_, _/_, _%_, _^_, _<_}
 use native.Mathlib.Omega.{arith}
 use lib.Dec.{eqb}
 use borrow.Author.Tests.{eqb-true, eqb-false}
@@ -16,7 +16,7 @@ use Rattle.arith.specs.declared.format.Format.{Format}
 use Rattle.arith.specs.declared.rounding.Rounded.{Rounded}
 use Rattle.arith.specs.declared.rounding.Scaled.{Scaled}
 use Rattle.arith.specs.Formats.{Sound, Finite}
-use Rattle.arith.specs.Exacts.{sizeOf, Amounts, Scales}
+use Rattle.arith.specs.Exacts.{sizeOf, Scales}
 use Rattle.arith.specs.Thresholds.{Crosses, halvedOf, Threshold}
 use Rattle.arith.proofs.Halving.{halving-alike}
 

@@ -4,16 +4,12 @@ use mathlib.Core.Logic.{inl, inr}
 use Prim.Native.Nat.{ℕ, _+_, _-_, _≤_, min, max}
 use native.Mathlib.Nat.{le-trans}
 use native.Mathlib.Omega.{arith}
-use Rattle.ladder.specs.Solution.{Interval}
 use Rattle.ladder.specs.Narrowing.{Spans}
 use Rattle.ladder.specs.Search.{Never, Least, Greatest, Bracket}
 use Rattle.ladder.proofs.Cases.{le-or-lt}
 
 pub spans-of : {P : ℕ → Type 0} {l h : ℕ} → Least P l → Greatest P h → Spans P (record { low = l; high = h })
 spans-of p q = record { low = p .holds; high = q .holds; all = λ y r. record { low = p .least y r; high = q .most y r } }
-
-pub spans-order : {P : ℕ → Type 0} {I : Interval} → Spans P I → I .low ≤ I .high
-spans-order {P} {I} s = s .all (I .low) (s .low) .high
 
 -- of two numbers with the property, the lesser and the greater
 pub min-holds : (P : ℕ → Type 0) (s t : ℕ) → P s → P t → P (min s t)

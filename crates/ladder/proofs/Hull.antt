@@ -64,10 +64,6 @@ module _ (f e : ℕ) (X A B : Interval) where
       pub hull-b : Within B B'
       hull-b = spans-within (HasB f e X A B) B B' (λ y w. w .solution .b-in) (h .bs)
 
-      -- so that its triples are the ones that were there
-      pub hull-given : Kept f e X' A' B' X A B
-      hull-given x a b s = record { x-in = in-within hull-x x (s .x-in); a-in = in-within hull-a a (s .a-in); b-in = in-within hull-b b (s .b-in); is = s .is }
-
       -- the ends of the result stand in triples of the result
       pub hull-again : Hull f e X' A' B' X' A' B'
       hull-again =

@@ -2,7 +2,7 @@
 use mathlib.Core.Path.{_≡_, ap, _∙_}
 use mathlib.Core.Logic.{inl, inr}
 use Prim.Native.Nat.{ℕ, suc, _+_, _-_, _*_, _^_, _≤_, _<_}
-use native.Mathlib.Nat.{le-refl, le-antisymm, le-trans, lt-of-lt-of-le, lt-of-not-le, not-le-of-lt, mul-le-mul-right, mul-le-mul, mul-lt-mul-of-pos-right, lt-of-mul-lt-mul-right, pow-succ'}
+use native.Mathlib.Nat.{le-refl, le-antisymm, le-trans, lt-of-lt-of-le, lt-of-not-le, not-le-of-lt, mul-le-mul-right, mul-le-mul, lt-of-mul-lt-mul-right, pow-succ'}
 use native.Mathlib.Omega.{arith}
 use lib.Pow.{pow-pos, pow-add, pow-mono}
 use lib.Ieee.{size}

@@ -1,6 +1,6 @@
 -- Patterns and floats that are no NaN's. Assumes nothing.
 use mathlib.Core.Path.{_≡_, sym, subst}
-use mathlib.Core.Bool.{Bool, true, false, not}
+use mathlib.Core.Bool.{Bool, true, not}
 use Prim.Native.Nat.{ℕ, _<_, _≤_, _*_, _%_}
 use native.Mathlib.Omega.{arith}
 use lib.Dec.{T}

@@ -1,10 +1,9 @@
 -- `arith::threshold::crossing` meets its contract: the larger of the two parts goes first. Assumes nothing.
-use mathlib.Core.Path.{_≡_, _∙_, ap}
+use mathlib.Core.Path.{_∙_, ap}
 use mathlib.Core.Logic.{⊎-elim, inl, inr}
 use native.Mathlib.Omega.{arith}
 use borrow.Author.Needs.{needs}
 use borrow.Author.Tests.{leb-true, leb-false}
-use Rattle.arith.specs.declared.exact.Exact.{Exact}
 use Rattle.arith.specs.Thresholds.{doubledOf}
 use Rattle.arith.proofs.Crossing.{Nearer, crosses-first, crosses-second, combined-fits}
 use Rattle.arith.proofs.threshold.crossing.Statement.{statement}
