@@ -48,7 +48,7 @@ pub fn least_operand<W: Width>(a: Place, b: Place, range: Range) -> Option<Place
     least_where(range, W::sum(b, -a), |x| b <= W::sum(x, a))
 }
 
-/// A number of units 2^k that no value of the range divides by, the range above zero.
+/// A k such that no value of the range, which is above zero, is a multiple of 2^k units.
 fn no_multiple<W: Width>(b: Range) -> i128 {
     let h = 1i64 << W::FRACTION;
     let parts = |m: Place| if m < h { (m, 0) } else { (h + m % h, m / h - 1) };
@@ -58,8 +58,8 @@ fn no_multiple<W: Width>(b: Range) -> i128 {
     k as i128
 }
 
-/// The range without the low places that stand in no solution: an operand below -2^(k+f) has a partner of that size, both are
-/// multiples of 2^k, and so is their sum.
+/// The range without the low places that stand in no solution: an operand of -2^(k+f) units or below has a partner of that
+/// size, both are multiples of 2^k, and so is their sum.
 fn raise<W: Width>(range: Range, b: Range) -> Range {
     if b.low <= 0 {
         return range;
