@@ -1,7 +1,6 @@
 -- `cases::make_cells` is safe and ends with its count. Assumes nothing.
 use Prim.Native.Nat.{_≤_, _-_}
 use native.Mathlib.Omega.{arith}
-use borrow.Author.Needs.{needs}
 use Rattle.lent_readings.proofs.cases.make_cells.Statement.{statement}
 use Rattle.lent_readings.proofs.cases.make_cells.Tie as tie
 

@@ -1,7 +1,6 @@
 -- `cases::make_sums` is safe and ends with its count. Assumes nothing.
 use Prim.Native.Nat.{_≤_, _-_}
 use native.Mathlib.Omega.{arith}
-use borrow.Author.Needs.{needs}
 use Rattle.lent_readings.proofs.cases.make_sums.Statement.{statement}
 use Rattle.lent_readings.proofs.cases.make_sums.Tie as tie
 
