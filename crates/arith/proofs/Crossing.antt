@@ -21,7 +21,7 @@ use Rattle.arith.specs.Thresholds.{doubledOf, Crosses}
 use Rattle.arith.proofs.Decoding.{pow-gap, size-is, large, low, shaped, apart, apart-comm, signed-up, signed-down, fromZero}
 
 -- twice the midpoint of m and its upper neighbour
-abbrev pub middle : ℕ → ℕ → ℕ
+abbrev middle : ℕ → ℕ → ℕ
 middle f m = magnitude f m + magnitude f (suc m)
 
 -- ---- the doubled significands
@@ -33,14 +33,14 @@ module _ (f m n : ℕ) (s o : Bool) (h : n ≤ m) where
   step = pow-gap (shift f n) (shift f m) (shift-le f m n h)
 
   -- the midpoint beyond m is the larger part
-  pub size-first : sizeOf (doubledOf 1 0 e) ≡ cond o (middle f m - 2 * magnitude f n) (middle f m + 2 * magnitude f n)
+  size-first : sizeOf (doubledOf 1 0 e) ≡ cond o (middle f m - 2 * magnitude f n) (middle f m + 2 * magnitude f n)
   size-first =
       size-is (doubledOf 1 0 e) (middle f m) (2 * magnitude f n)
       (omega (arith, large f m n s o h, magnitude-suc f m, step))
       (omega (arith, magnitude-parts f n))
 
   -- the midpoint beyond n is the smaller part
-  pub size-second : sizeOf (doubledOf 0 1 e) ≡ cond o (2 * magnitude f m - middle f n) (2 * magnitude f m + middle f n)
+  size-second : sizeOf (doubledOf 0 1 e) ≡ cond o (2 * magnitude f m - middle f n) (2 * magnitude f m + middle f n)
   size-second =
       size-is (doubledOf 0 1 e) (2 * magnitude f m) (middle f n)
       (omega (arith, large f m n s o h))
@@ -54,7 +54,7 @@ module _ (f m n : ℕ) (s o : Bool) (h : n ≤ m) where
   leading i (inr l) = inr (omega (arith, twice))
 
   module _ (l : m ≤ 2 ^ 63) where
-    pub shaped-first : Shaped (f + 1) (doubledOf 1 0 e)
+    shaped-first : Shaped (f + 1) (doubledOf 1 0 e)
     shaped-first = let p = shaped f m n s o h l in record {
       larger = omega (arith, p .larger, twice);
       smaller = omega (arith, p .smaller, twice);
@@ -63,7 +63,7 @@ module _ (f m n : ℕ) (s o : Bool) (h : n ≤ m) where
       height = p .height;
     }
 
-    pub shaped-second : n < m → Shaped (f + 1) (doubledOf 0 1 e)
+    shaped-second : n < m → Shaped (f + 1) (doubledOf 0 1 e)
     shaped-second g =
         let p = shaped f m n s o h l in
         let q : e .smaller < e .larger * 2 ^ e .gap = lt-of-mul-lt-mul-right (2 ^ e .shift) (omega (arith, large f m n s o h, magnitude-parts f n, magnitude-lt f n m g)) in

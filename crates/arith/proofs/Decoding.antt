@@ -33,16 +33,16 @@ size-is t A B a b = go (t .opposite)
     go false = omega arith
 
 module _ (f m n : ℕ) (negative opposite : Bool) (h : n ≤ m) where
-  abbrev pub e : Exact
+  abbrev e : Exact
   e = exactOf f negative opposite m n
 
   pub large : e .larger * 2 ^ e .gap * 2 ^ e .shift ≡ magnitude f m
   large = omega (arith, magnitude-parts f m, ap (λ (x : ℕ). e .larger * x) (pow-gap (shift f n) (shift f m) (shift-le f m n h)))
 
-  pub size-exact : sizeOf e ≡ cond opposite (magnitude f m - magnitude f n) (magnitude f m + magnitude f n)
+  size-exact : sizeOf e ≡ cond opposite (magnitude f m - magnitude f n) (magnitude f m + magnitude f n)
   size-exact = size-is e (magnitude f m) (magnitude f n) large (sym (magnitude-parts f n))
 
-  pub top : e .gap + e .shift ≡ shift f m
+  top : e .gap + e .shift ≡ shift f m
   top = omega (arith, shift-le f m n h)
 
   pub low : m ≤ 2 ^ 63 → Low f e

@@ -1,4 +1,4 @@
--- Half of a number of units, rounded toward zero: from a word and a shift, and of two numbers that agree in the digits that count. Assumes nothing.
+-- Half of a number of units, rounded toward zero: from a word and a shift, and of two numbers that agree in the digits that count. Rests on `ladder`'s Truncation.
 use mathlib.Core.Path.{_≡_, refl, sym, ap, ap₂, _∙_}
 use mathlib.Core.Logic.{inl, inr}
 use mathlib.Core.Bool.{Bool, true, false}
@@ -75,7 +75,7 @@ module _ (f n s : ℕ) (pos : 0 < n) where
         ap (λ (x : ℕ). 2 * x) (truncated-value f (T / 2) ∙ ap (λ (x : ℕ). T / 2 / 2 ^ x * 2 ^ x) drops ∙ ap (λ (x : ℕ). x * 2 ^ d) keeps)
         ∙ omega (arith, ap (λ (x : ℕ). w * x) twice)
 
-    pub halved : record { place = d * 2 ^ f + w; exact = eqb r 0 } ≡ halvedOf f T
+    halved : record { place = d * 2 ^ f + w; exact = eqb r 0 } ≡ halvedOf f T
     halved = elim (le-or-lt r 0) [
       | inl l ↦
           let z : r ≡ 0 = omega arith in
@@ -86,7 +86,7 @@ module _ (f n s : ℕ) (pos : 0 < n) where
     ]
 
     -- what is kept has at most f + 1 digits
-    pub few : w < 2 ^ (f + 1)
+    few : w < 2 ^ (f + 1)
     few =
         let a : T < 2 ^ (size n + s) = lt-of-lt-of-le (mul-lt-mul-of-pos-right (size-lt n) (pow-pos s)) (omega (arith, pow-add 2 (size n) s)) in
         let b : 2 ^ (size n + s) ≤ 2 ^ ((f + 1) + (d + 1)) = pow-mono (omega arith) in

@@ -86,7 +86,7 @@ module _ (f g i P Q : ℕ) (some : 1 ≤ f) (big : 2 ^ f ≤ P) (few : Q < 2 * 2
       (ap (λ (x : ℕ). (16 * P + (2 * K + x)) * (v * u)) (z .1) ∙ add-near P K L Q u v q)
       (add-true P K L Q u v q)
 
-  pub jam : (b : Bool) → Alike f (cond b (16 * P - (2 * K + min L 1)) (16 * P + (2 * K + min L 1)) * 2 ^ (i + g)) (cond b (P * 2 ^ (g + 4) - Q) (P * 2 ^ (g + 4) + Q) * 2 ^ i)
+  jam : (b : Bool) → Alike f (cond b (16 * P - (2 * K + min L 1)) (16 * P + (2 * K + min L 1)) * 2 ^ (i + g)) (cond b (P * 2 ^ (g + 4) - Q) (P * 2 ^ (g + 4) + Q) * 2 ^ i)
   jam b =
       rw (pow-add 2 i g, pow-add 2 g 4)
       (at (min L 1) (elim (le-or-lt L 0) [ inl l ↦ inl (omega arith) | inr l ↦ inr (omega arith) ]) b)

@@ -11,13 +11,13 @@ use Rattle.arith.specs.declared.interval.Interval.{Interval}
 use Rattle.arith.specs.declared.narrow.Narrowed.the-variants.{Ends}
 use Rattle.arith.specs.Exports.{littleEndian, endBytes, sixEnds, placed, exportNumber, exportBuffer}
 
-pub length-little : (n w : ℕ) → length (littleEndian n w) ≡ n
+length-little : (n w : ℕ) → length (littleEndian n w) ≡ n
 unfolding littleEndian
 length-little zero w = refl
 length-little (suc n) w = ap suc (length-little n (w / 256))
 
 -- ---- byte by byte
-pub placed-none : (i : ℕ) (s : List ℕ) → placed i [] s ≡ s
+placed-none : (i : ℕ) (s : List ℕ) → placed i [] s ≡ s
 unfolding placed
 placed-none i s = ap (λ (j : ℕ). take i s ++ drop j s) (none i) ∙ take-append-drop i s
   where
@@ -59,7 +59,7 @@ placed-all n i w s = ap (λ (m : ℕ). placed (i + n) (littleEndian m w) s) (non
     none n = omega arith
 
 -- ---- run by run
-pub placed-next : (i j : ℕ) (bs cs s : List ℕ) → j ≡ i + length bs → j + length cs ≤ length s → placed j cs (placed i bs s) ≡ placed i (bs ++ cs) s
+placed-next : (i j : ℕ) (bs cs s : List ℕ) → j ≡ i + length bs → j + length cs ≤ length s → placed j cs (placed i bs s) ≡ placed i (bs ++ cs) s
 unfolding placed
 placed-next i j bs cs s e h =
     let p = take i s ++ bs in
@@ -74,7 +74,7 @@ placed-next i j bs cs s e h =
     ∙ append-assoc (take i s) bs (cs ++ drop (j + length cs) s)
     ∙ ap (λ (u : List ℕ). take i s ++ u) (sym (append-assoc bs cs (drop (j + length cs) s)) ∙ ap (λ (m : ℕ). (bs ++ cs) ++ drop m s) k)
 
-pub length-ends : (I : Interval) → length (endBytes I) ≡ 16
+length-ends : (I : Interval) → length (endBytes I) ≡ 16
 unfolding endBytes
 length-ends I = length-append (littleEndian 8 (I .low)) (littleEndian 8 (I .high)) ∙ omega (arith, length-little 8 (I .low), length-little 8 (I .high))
 

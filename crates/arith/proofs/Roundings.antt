@@ -21,12 +21,12 @@ use Rattle.ladder.proofs.Multiples.{magnitude-dvd}
 use Rattle.ladder.proofs.Sticky.{round-sticky, round-scale}
 use Rattle.arith.specs.Exacts.{roundingOf, Alike, same, sticky}
 
-pub rounding-is : (f n p : ℕ) (b : Bool) → round f n ≡ p → eqb (magnitude f (round f n)) n ≡ b → record { place = p; exact = b } ≡ roundingOf f n
+rounding-is : (f n p : ℕ) (b : Bool) → round f n ≡ p → eqb (magnitude f (round f n)) n ≡ b → record { place = p; exact = b } ≡ roundingOf f n
 unfolding roundingOf
 rounding-is f n p b h g = sym (ap₂ (λ (x : ℕ) (y : Bool). record { place = x; exact = y }) h g)
 
 -- ---- nothing is lost
-pub rounding-exact : (f m n : ℕ) → 1 ≤ f → magnitude f m ≡ n → record { place = m; exact = true } ≡ roundingOf f n
+rounding-exact : (f m n : ℕ) → 1 ≤ f → magnitude f m ≡ n → record { place = m; exact = true } ≡ roundingOf f n
 rounding-exact f m n some e =
     let r : round f n ≡ m = ap (round f) (sym e) ∙ round-magnitude f some m in
     rounding-is f n m true r (eq-eqb _ _ (ap (magnitude f) r ∙ e))
@@ -38,7 +38,7 @@ inexact f j a b m big B l e =
     let z : (a * 2 ^ j + b) % 2 ^ j ≡ 0 = ap (λ (x : ℕ). x % 2 ^ j) (sym e) ∙ mod-eq-zero-of-dvd (2 ^ j) (magnitude-dvd f m j g) in
     omega (arith, digits-mod a l)
 
-pub rounding-sticky : (f j a b c : ℕ) → 1 ≤ f → 2 * 2 ^ f ≤ a → 0 < b → b < 2 ^ j → 0 < c → c < 2 ^ j → roundingOf f (a * 2 ^ j + b) ≡ roundingOf f (a * 2 ^ j + c)
+rounding-sticky : (f j a b c : ℕ) → 1 ≤ f → 2 * 2 ^ f ≤ a → 0 < b → b < 2 ^ j → 0 < c → c < 2 ^ j → roundingOf f (a * 2 ^ j + b) ≡ roundingOf f (a * 2 ^ j + c)
 rounding-sticky f j a b c some big B B' C C' =
     let no : (d : ℕ) → 0 < d → d < 2 ^ j → eqb (magnitude f (round f (a * 2 ^ j + d))) (a * 2 ^ j + d) ≡ false = λ d D D'. ne-eqb _ _ (inexact f j a d (round f (a * 2 ^ j + d)) (omega arith) D D') in
     sym (rounding-is f (a * 2 ^ j + b) (round f (a * 2 ^ j + c)) false (round-sticky f some j a b c big B B' C C') (no b B B'))
@@ -50,7 +50,7 @@ rounding-alike f n m some (sticky j a b c big B B' C C' N M) = ap (roundingOf f)
 
 -- ---- the quotient, by how twice the rest compares
 module _ (n d : ℕ) where
-  pub closest-down : n % d * 2 < d → closest n d ≡ n / d
+  closest-down : n % d * 2 < d → closest n d ≡ n / d
   closest-down h = go (compare (n % d * 2) d) (compares (n % d * 2) d)
     where
       go : (o : Ordering) → Compares o (n % d * 2) d → nearest (n / d) o ≡ n / d
@@ -58,7 +58,7 @@ module _ (n d : ℕ) where
       go Ordering·eq l = absurd (omega arith)
       go Ordering·gt l = absurd (omega arith)
 
-  pub closest-tie : n % d * 2 ≡ d → closest n d ≡ n / d + n / d % 2
+  closest-tie : n % d * 2 ≡ d → closest n d ≡ n / d + n / d % 2
   closest-tie h = go (compare (n % d * 2) d) (compares (n % d * 2) d)
     where
       go : (o : Ordering) → Compares o (n % d * 2) d → nearest (n / d) o ≡ n / d + n / d % 2
@@ -66,7 +66,7 @@ module _ (n d : ℕ) where
       go Ordering·eq l = refl
       go Ordering·gt l = absurd (omega arith)
 
-  pub closest-up : d < n % d * 2 → closest n d ≡ n / d + 1
+  closest-up : d < n % d * 2 → closest n d ≡ n / d + 1
   closest-up h = go (compare (n % d * 2) d) (compares (n % d * 2) d)
     where
       go : (o : Ordering) → Compares o (n % d * 2) d → nearest (n / d) o ≡ n / d + 1
@@ -76,31 +76,31 @@ module _ (n d : ℕ) where
 
 -- ---- n has f + 1 + k digits, and stands for n * 2 ^ s
 module _ (f n s k : ℕ) (long : size n ≡ f + 1 + k) where
-  pub reaches : 2 ^ f * 2 ^ k ≤ n
+  reaches : 2 ^ f * 2 ^ k ≤ n
   reaches = omega (arith, pow-add 2 f k, size-reaches n (f + k) (omega arith))
 
-  pub kept-big : 2 ^ f ≤ n / 2 ^ k
+  kept-big : 2 ^ f ≤ n / 2 ^ k
   kept-big = native.Mathlib.Nat.le-div-iff-mul-le (pow-pos k) .1 reaches
 
-  pub kept-few : n / 2 ^ k < 2 * 2 ^ f
+  kept-few : n / 2 ^ k < 2 * 2 ^ f
   kept-few =
       let e : size n ≡ suc f + k = omega arith in
       native.Mathlib.Nat.div-lt-iff-lt-mul (pow-pos k) .1 (omega (arith, size-lt n, ap (λ (x : ℕ). 2 ^ x) e, pow-add 2 (suc f) k, ap (λ (x : ℕ). x * 2 ^ k) (pow-succ' 2 f)))
 
-  pub round-long : round f (n * 2 ^ s) ≡ (s + k) * 2 ^ f + closest n (2 ^ k)
+  round-long : round f (n * 2 ^ s) ≡ (s + k) * 2 ^ f + closest n (2 ^ k)
   unfolding round excess
   round-long =
       let l : 2 ^ f ≤ n = omega (arith, size-reaches n f (omega arith)) in
       let d : size n - suc f ≡ k = omega arith in
       round-scale f n s l ∙ ap (λ (x : ℕ). s * 2 ^ f + (x * 2 ^ f + closest n (2 ^ x))) d ∙ omega arith
 
-  pub rest-inexact : 0 < n % 2 ^ k → eqb (magnitude f (round f (n * 2 ^ s))) (n * 2 ^ s) ≡ false
+  rest-inexact : 0 < n % 2 ^ k → eqb (magnitude f (round f (n * 2 ^ s))) (n * 2 ^ s) ≡ false
   rest-inexact p =
       ne-eqb _ _ (λ e. inexact f (k + s) (n / 2 ^ k) (n % 2 ^ k * 2 ^ s) (round f (n * 2 ^ s)) kept-big (mul-pos p (pow-pos s))
       (omega (arith, pow-add 2 k s, mul-lt-mul-of-pos-right (mod-lt n (pow-pos k)) (pow-pos s)))
       (e ∙ omega (arith, ap (λ (x : ℕ). x * 2 ^ s) (div-add-mod' n (2 ^ k)), ap (λ (x : ℕ). n / 2 ^ k * x) (pow-add 2 k s))))
 
-  pub rest-exact : 1 ≤ f → n % 2 ^ k ≡ 0 → record { place = (s + k) * 2 ^ f + n / 2 ^ k; exact = true } ≡ roundingOf f (n * 2 ^ s)
+  rest-exact : 1 ≤ f → n % 2 ^ k ≡ 0 → record { place = (s + k) * 2 ^ f + n / 2 ^ k; exact = true } ≡ roundingOf f (n * 2 ^ s)
   rest-exact some z =
       rounding-exact f ((s + k) * 2 ^ f + n / 2 ^ k) (n * 2 ^ s) some
       (magnitude-is f (s + k) (n / 2 ^ k) (inr kept-big) (omega (arith, kept-few))
@@ -139,7 +139,7 @@ module _ (f n s k : ℕ) (long : size n ≡ f + 1 + k) where
       (omega arith, omega (arith, mul-le-mul-left s (pow-pos f)), omega (arith, mul-le-mul K F, kept-few))
 
 -- ---- what `round_short` makes
-pub shifted-lt : (n s j : ℕ) → size n + s ≤ j → n * 2 ^ s < 2 ^ j
+shifted-lt : (n s j : ℕ) → size n + s ≤ j → n * 2 ^ s < 2 ^ j
 shifted-lt n s j h = omega (arith, mul-lt-mul-of-pos-right (size-lt n) (pow-pos s), pow-add 2 (size n) s, pow-mono h)
 
 shifted-ge : (n s j : ℕ) → 0 < n → size n + s ≡ suc j → 2 ^ j ≤ n * 2 ^ s

@@ -26,7 +26,7 @@ past-mod n k h l = sym (mod-eq-of-lt (past n k h l))
 pub again : (n k : ℕ) → n < 2 ^ 64 → (n / 2 ^ k * 2 ^ k) % 2 ^ 64 ≡ n / 2 ^ k * 2 ^ k
 again n k h = mod-eq-of-lt (omega (arith, div-add-mod' n (2 ^ k)))
 
-pub size-is : (n m : ℕ) → n < 2 ^ m → 2 ^ m ≤ 2 * n + 1 → size n ≡ m
+size-is : (n m : ℕ) → n < 2 ^ m → 2 ^ m ≤ 2 * n + 1 → size n ≡ m
 size-is n m h l = elim (le-or-lt m (size n)) [
   | inl g ↦ le-antisymm (size-le n m h) g
   | inr g ↦ absurd (omega (arith, size-lt n, pow-succ' 2 (size n), pow-mono {i = suc (size n)} {j = m} g))

@@ -1,4 +1,4 @@
--- The operand from which on the sum with a is at least b, from the exact difference halved. Assumes nothing.
+-- The operand from which on the sum with a is at least b, from the exact difference halved. Rests on `ladder`'s Threshold.
 use mathlib.Core.Path.{_≡_, sym, ap, _∙_, subst}
 use mathlib.Core.Logic.{_⊎_, inl, inr}
 use mathlib.Core.Bool.{Bool, true, false, cond}

@@ -11,7 +11,7 @@ use Rattle.ladder.proofs.Cases.{le-or-lt}
 use Rattle.ladder.proofs.Rounding.{even-pow}
 
 -- more than j digits reach 2 ^ j
-pub lt-size : (n j : ℕ) → 2 ^ j ≤ n → j < size n
+lt-size : (n j : ℕ) → 2 ^ j ≤ n → j < size n
 lt-size n j h = lt-of-not-le (λ (g : size n ≤ j). not-le-of-lt (lt-of-lt-of-le (size-lt n) (pow-mono g)) h)
 
 pub size-scale : (n t : ℕ) → 0 < n → size (n * 2 ^ t) ≡ size n + t

@@ -29,7 +29,7 @@ module _ (f e : ℕ) (some : 1 ≤ f) where
   -- ---- the least x
   module _ (X A B : Interval) where
     -- an x in a triple reaches B with A's high end
-    pub attains : (y : ℕ) → HasX f e X A B y → Attains f e (A .high) (B .low) X y
+    attains : (y : ℕ) → HasX f e X A B y → Attains f e (A .high) (B .low) X y
     attains y w =
         let s = w .solution in
         let i = s .a-in in

@@ -65,7 +65,7 @@ module _ (f e : ℕ) (X A B : Interval) where
       hull-b = spans-within (HasB f e X A B) B B' (λ y w. w .solution .b-in) (h .bs)
 
       -- the ends of the result stand in triples of the result
-      pub hull-again : Hull f e X' A' B' X' A' B'
+      hull-again : Hull f e X' A' B' X' A' B'
       hull-again =
           let x = kept-x f e X A B X' A' B' hull-kept in
           let a = kept-a f e X A B X' A' B' hull-kept in

@@ -10,7 +10,7 @@ use Rattle.ladder.specs.Magnitude.{scaled, magnitude, shift, significand
 use Rattle.ladder.proofs.Cases.{le-or-lt}
 
 -- by the exponent field and the fraction
-pub magnitude-at : (f k t : ℕ) → t < 2 ^ f → magnitude f (k * 2 ^ f + t) ≡ scaled (2 ^ f) k t
+magnitude-at : (f k t : ℕ) → t < 2 ^ f → magnitude f (k * 2 ^ f + t) ≡ scaled (2 ^ f) k t
 unfolding magnitude
 magnitude-at f k t l = rw (digits-div k l, digits-mod k l)
 

@@ -73,7 +73,7 @@ module _ (f e : ℕ) (some : 1 ≤ f) where
             omega (arith, sign-even f e some, double r R);
       }
 
-  pub rounded-nearest : (p n : ℕ) → Finite f e (rounded f e p n) → Nearest f e p n (rounded f e p n)
+  rounded-nearest : (p n : ℕ) → Finite f e (rounded f e p n) → Nearest f e p n (rounded f e p n)
   rounded-nearest p n fin = elim (le-or-lt n p) [
     | inl h ↦ up p n h fin
     | inr h ↦

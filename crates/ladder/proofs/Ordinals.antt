@@ -45,11 +45,11 @@ module _ (f e : ℕ) where
   unfolding ordinal
   ordinal-high p l = simp (le-ltb _ _ l)
 
-  pub pattern-low : (r : ℕ) → r < s → pattern f e r ≡ s + (s - r)
+  pattern-low : (r : ℕ) → r < s → pattern f e r ≡ s + (s - r)
   unfolding pattern
   pattern-low r l = simp (lt-ltb _ _ l)
 
-  pub pattern-high : (r : ℕ) → s ≤ r → pattern f e r ≡ r - s
+  pattern-high : (r : ℕ) → s ≤ r → pattern f e r ≡ r - s
   unfolding pattern
   pattern-high r l = simp (le-ltb _ _ l)
 
@@ -102,7 +102,7 @@ module _ (f e : ℕ) where
   ]
 
   -- ---- values
-  pub ordinal-lt : (x y : ℕ) → x < y → above f e x + below f e y < above f e y + below f e x
+  ordinal-lt : (x y : ℕ) → x < y → above f e x + below f e y < above f e y + below f e x
   ordinal-lt x y h =
       let u = magnitude-le f (x - s) (y - s) (omega arith) in
       let d = magnitude-le f (s - y) (s - x) (omega arith) in

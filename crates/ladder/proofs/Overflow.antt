@@ -41,7 +41,7 @@ module _ (f e : ℕ) (some : 1 ≤ f) (two : 2 ≤ e) where
   abbrev s : ℕ
   s = sign f e
 
-  pub overflow : (n : ℕ) → (infinity f e ≤ round f n) ↔ (bound f e ≤ n)
+  overflow : (n : ℕ) → (infinity f e ≤ round f n) ↔ (bound f e ≤ n)
   unfolding infinity bound
   overflow n =
       let k = 2 ^ e - 4 in

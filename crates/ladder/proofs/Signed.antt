@@ -44,7 +44,7 @@ module _ (f e : ℕ) (some : 1 ≤ f) where
         (λ l. omega (arith, k .0 (omega arith)), λ l. omega (arith, k .1 (omega arith)))
   ]
 
-  pub le-rounded : (p n b : ℕ) → s < b + infinity f e → b ≤ s + infinity f e → (b ≤ rounded f e p n) ↔ Reaches p n b
+  le-rounded : (p n b : ℕ) → s < b + infinity f e → b ≤ s + infinity f e → (b ≤ rounded f e p n) ↔ Reaches p n b
   le-rounded p n b h l = elim (le-or-lt b s) [
     | inl g ↦
         let k = low p n (s - b) (omega arith) in

@@ -16,10 +16,10 @@ pub swap : {f e : ℕ} {X A B : Interval} {x a b : ℕ} → Solution f e X A B x
 swap {f} {e} {X} {A} {B} {x} {a} {b} s = record { x-in = s .a-in; a-in = s .x-in; b-in = s .b-in; is = sum-comm f e a x ∙ s .is }
 
 module _ (f e : ℕ) (X A B : Interval) where
-  pub swap-x : (y : ℕ) → HasX f e A X B y → HasA f e X A B y
+  swap-x : (y : ℕ) → HasX f e A X B y → HasA f e X A B y
   swap-x y w = record { x = w .a; b = w .b; solution = swap (w .solution) }
 
-  pub swap-a : (y : ℕ) → HasA f e X A B y → HasX f e A X B y
+  swap-a : (y : ℕ) → HasA f e X A B y → HasX f e A X B y
   swap-a y w = record { a = w .x; b = w .b; solution = swap (w .solution) }
 
   pub swap-spans : (I : Interval) → Spans (HasX f e A X B) I → Spans (HasA f e X A B) I
@@ -44,7 +44,7 @@ module _ (f e : ℕ) (X A B X' A' B' : Interval) (k : Kept f e X A B X' A' B') w
   kept-leading j x a l = record { solution = j x a (sum f e x a) (l .solution); least = λ y w. l .least y (kept-x y w) }
 
 -- ---- mirrored
-pub mirror-finite : (f e r : ℕ) → Finite f e r → Finite f e (mirrored f e r)
+mirror-finite : (f e r : ℕ) → Finite f e r → Finite f e (mirrored f e r)
 mirror-finite f e r n = let c = infinity-lt-sign f e in record { low = omega arith; high = omega arith }
 
 pub mirror-bounded : (f e : ℕ) (I : Interval) → Bounded f e I → Bounded f e (reflection f e I)
@@ -94,13 +94,13 @@ module _ (f e : ℕ) (some : 1 ≤ f) (X A B : Interval) (nx : Bounded f e X) (n
   pub mirror-x : (y : ℕ) → HasX f e X A B y → HasX f e X' A' B' (mirrored f e y)
   mirror-x y w = record { a = mirrored f e (w .a); b = mirrored f e (w .b); solution = mirror-solution y (w .a) (w .b) (w .solution) }
 
-  pub mirrored-x : (y : ℕ) → HasX f e X' A' B' y → HasX f e X A B (mirrored f e y)
+  mirrored-x : (y : ℕ) → HasX f e X' A' B' y → HasX f e X A B (mirrored f e y)
   mirrored-x y w = record { a = mirrored f e (w .a); b = mirrored f e (w .b); solution = mirrored-solution y (w .a) (w .b) (w .solution) }
 
   pub mirror-b : (y : ℕ) → HasB f e X A B y → HasB f e X' A' B' (mirrored f e y)
   mirror-b y w = record { x = mirrored f e (w .x); a = mirrored f e (w .a); solution = mirror-solution (w .x) (w .a) y (w .solution) }
 
-  pub mirrored-b : (y : ℕ) → HasB f e X' A' B' y → HasB f e X A B (mirrored f e y)
+  mirrored-b : (y : ℕ) → HasB f e X' A' B' y → HasB f e X A B (mirrored f e y)
   mirrored-b y w = record { x = mirrored f e (w .x); a = mirrored f e (w .a); solution = mirrored-solution (w .x) (w .a) y (w .solution) }
 
   -- the greatest is the mirror image of the least

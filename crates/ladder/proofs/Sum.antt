@@ -1,4 +1,4 @@
--- The sum of two ordinals is commutative, monotone in each operand and mirrored; rounding p - n units gives back a value that has an ordinal, and so a sum with zero. Assumes nothing.
+-- The sum of two ordinals is commutative, monotone in each operand and mirrored; rounding p - n units gives back a value that has an ordinal. Assumes nothing.
 use mathlib.Core.Path.{_≡_, sym, ap, ap₂, _∙_}
 use mathlib.Core.Logic.{inl, inr}
 use Prim.Native.Nat.{ℕ, _+_, _-_, _*_, min, _≤_}
@@ -78,12 +78,8 @@ module _ (f e : ℕ) (some : 1 ≤ f) where
         rounded-down p n (omega arith) ∙ omega arith
   ]
 
-  pub sum-zero : (x : ℕ) → s ≤ x + infinity f e → x ≤ s + infinity f e → sum f e x s ≡ x
-  unfolding sum
-  sum-zero x h l = rounded-value (gains f e x s) (losses f e x s) x h l (omega (arith, above-none f e s (omega arith), below-none f e s (omega arith)))
-
   -- ---- between the infinities
-  pub rounded-range : (p n : ℕ) → (s ≤ rounded f e p n + infinity f e) × (rounded f e p n ≤ s + infinity f e)
+  rounded-range : (p n : ℕ) → (s ≤ rounded f e p n + infinity f e) × (rounded f e p n ≤ s + infinity f e)
   rounded-range p n = let c = infinity-lt-sign f e in elim (le-or-lt p n) [
     | inl h ↦ omega (arith, rounded-down p n h)
     | inr h ↦ omega (arith, rounded-up p n (omega arith))

@@ -18,11 +18,11 @@ use Rattle.ladder.proofs.Truncation.{truncated-galois}
 use Rattle.ladder.proofs.Signed.{le-sum}
 
 -- ---- half a number of units, rounded toward zero
-pub half-galois : (f n m : ℕ) → (2 * magnitude f m ≤ n) ↔ (m ≤ truncated f (n / 2))
+half-galois : (f n m : ℕ) → (2 * magnitude f m ≤ n) ↔ (m ≤ truncated f (n / 2))
 half-galois f n m = let g = truncated-galois f (n / 2) m in (λ h. g .0 (omega arith), λ h. omega (arith, g .1 h))
 
 module _ (f n h : ℕ) (is : h ≡ truncated f (n / 2)) where
-  pub half-le : (m : ℕ) → (2 * magnitude f m ≤ n) ↔ (m ≤ h)
+  half-le : (m : ℕ) → (2 * magnitude f m ≤ n) ↔ (m ≤ h)
   half-le m = let g = half-galois f n m in (λ l. omega (arith, g .0 l), λ l. g .1 (omega arith))
 
   pub half-under : 2 * magnitude f h ≤ n
@@ -30,7 +30,7 @@ module _ (f n h : ℕ) (is : h ≡ truncated f (n / 2)) where
 
   -- half of n is a float
   module _ (exact : 2 * magnitude f h ≡ n) where
-    pub exact-under : (p m : ℕ) → p < 2 → (2 * magnitude f m + p ≤ n) ↔ (m + p ≤ h)
+    exact-under : (p m : ℕ) → p < 2 → (2 * magnitude f m + p ≤ n) ↔ (m + p ≤ h)
     exact-under p m P = elim (le-or-lt m h) [
       | inl l ↦ elim (le-or-lt h m) [
         | inl g ↦ let q : m ≡ h = omega arith in (λ r. omega (arith, ap (magnitude f) q), λ r. omega (arith, ap (magnitude f) q))
@@ -39,7 +39,7 @@ module _ (f n h : ℕ) (is : h ≡ truncated f (n / 2)) where
       | inr l ↦ (λ r. absurd (omega (arith, magnitude-lt f h m l)), λ r. absurd (omega arith))
     ]
 
-    pub exact-over : (p m : ℕ) → p < 2 → (n + p ≤ 2 * magnitude f m) ↔ (h + p ≤ m)
+    exact-over : (p m : ℕ) → p < 2 → (n + p ≤ 2 * magnitude f m) ↔ (h + p ≤ m)
     exact-over p m P = elim (le-or-lt h m) [
       | inl l ↦ elim (le-or-lt m h) [
         | inl g ↦ let q : m ≡ h = omega arith in (λ r. omega (arith, ap (magnitude f) q), λ r. omega (arith, ap (magnitude f) q))
@@ -50,17 +50,17 @@ module _ (f n h : ℕ) (is : h ≡ truncated f (n / 2)) where
 
   -- half of n lies between two floats
   module _ (inexact : 2 * magnitude f h < n) where
-    pub inexact-under : (p m : ℕ) → p < 2 → (2 * magnitude f m + p ≤ n) ↔ (m ≤ h)
+    inexact-under : (p m : ℕ) → p < 2 → (2 * magnitude f m + p ≤ n) ↔ (m ≤ h)
     inexact-under p m P = (λ r. half-le m .0 (omega arith), λ r. omega (arith, magnitude-le f m h r))
 
-    pub inexact-over : (p m : ℕ) → p < 2 → (n + p ≤ 2 * magnitude f m) ↔ (h + 1 ≤ m)
+    inexact-over : (p m : ℕ) → p < 2 → (n + p ≤ 2 * magnitude f m) ↔ (h + 1 ≤ m)
     inexact-over p m P = (
       λ r. elim (le-or-lt m h) [ inl g ↦ absurd (omega (arith, magnitude-le f m h g)) | inr g ↦ omega arith ],
       λ r. elim (le-or-lt (2 * magnitude f m) n) [ inl g ↦ absurd (omega (arith, half-le m .0 g)) | inr g ↦ omega arith ],
     )
 
 -- ---- twice a value is at most that of the binade above
-pub magnitude-twice : (f m : ℕ) → 2 * magnitude f m ≤ magnitude f (m + 2 ^ f)
+magnitude-twice : (f m : ℕ) → 2 * magnitude f m ≤ magnitude f (m + 2 ^ f)
 magnitude-twice f m = elim (le-or-lt (2 ^ f) m) [
   | inl l ↦ let e : magnitude f (m + 2 ^ f) ≡ magnitude f m * 2 ^ 1 = ap (magnitude f) (omega arith) ∙ magnitude-shift f 1 m l in omega arith
   | inr l ↦

@@ -16,7 +16,7 @@ pub truncated-value : (f n : ℕ) → magnitude f (truncated f n) ≡ n / 2 ^ ex
 unfolding truncated
 truncated-value f n = magnitude-is f (excess f n) (n / 2 ^ excess f n) (counted f n) (omega (arith, few f n))
 
-pub truncated-is : (f n : ℕ) → (magnitude f (truncated f n) ≤ n) × (n < magnitude f (suc (truncated f n)))
+truncated-is : (f n : ℕ) → (magnitude f (truncated f n) ≤ n) × (n < magnitude f (suc (truncated f n)))
 unfolding truncated
 truncated-is f n =
     let k = excess f n in

@@ -16,14 +16,14 @@ module _ (f e : ℕ) (some : 1 ≤ f) where
   abbrev s : ℕ
   s = sign f e
 
-  pub ordinal-above : (p : ℕ) → isFinite f e p ≡ true → above f e (ordinal f e p) ≡ unitsAbove f e p
+  ordinal-above : (p : ℕ) → isFinite f e p ≡ true → above f e (ordinal f e p) ≡ unitsAbove f e p
   unfolding unitsAbove
   ordinal-above p h = elim (le-or-lt s p) [
     | inl l ↦ simp (le-ltb _ _ l) (above-none f e (ordinal f e p) (omega (arith, ordinal-high f e p l)))
     | inr l ↦ simp (lt-ltb _ _ l) (ap (magnitude f) (omega (arith, ordinal-low f e p l)))
   ]
 
-  pub ordinal-below : (p : ℕ) → isFinite f e p ≡ true → below f e (ordinal f e p) ≡ unitsBelow f e p
+  ordinal-below : (p : ℕ) → isFinite f e p ≡ true → below f e (ordinal f e p) ≡ unitsBelow f e p
   unfolding unitsBelow
   ordinal-below p h = elim (le-or-lt s p) [
     | inl l ↦ simp (le-ltb _ _ l) (ap (magnitude f) (omega (arith, ordinal-high f e p l, finite-high f e p h l, infinity-lt-sign f e)))
