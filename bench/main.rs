@@ -43,7 +43,7 @@ fn wide<W: Width>(words: &mut Words) -> [Range; 3] {
     [x, a, b]
 }
 
-/// Every interval at most so many floats long, and one.
+/// Every interval at most `most` + 1 floats long.
 fn about<W: Width>(words: &mut Words, most: i64) -> [Range; 3] {
     let (p, q) = cases::middles::<W>(words, "opposite signs");
     let (x, a) = (cases::around::<W>(words, p, most), cases::around::<W>(words, q.abs(), most));

@@ -33,7 +33,7 @@ pub enum Cut {
     Refused(Refusal),
 }
 
-// An interval shifted or mirrored.
+// An interval in canonical patterns, shifted or mirrored.
 pub enum Image {
     Is(Interval),
     Refused(Refusal),

@@ -1,4 +1,4 @@
-// Arithmetic on binary floating-point patterns, one body for every width: the forward sum, intervals and the narrowing of one sum. In integers, but that the narrowing adds by the machine where it can. Rests on the crate `ladder`.
+// Arithmetic on binary floating-point patterns at both widths: the forward sum, intervals and the narrowing of one sum. All in integers, except that the narrowing adds by the machine's floats. Rests on the crate `ladder`.
 mod clamp;
 mod entry;
 mod exact;

@@ -1,4 +1,4 @@
-// The operand from which on the sum with a is at least b, without a search: twice the midpoint of b and the float below it, less twice a, is an exact difference; half of it, rounded up, is that operand.
+// The operand from which on the sum with a is at least b, without a search: twice the midpoint of b and the float below it, less twice a, is an exact difference; half of it, rounded up, is that operand, and where b is odd the midpoint itself is not enough.
 ghost use mathlib.Core.Path.{_≡_};
 ghost use Prim.Native.Nat.{_*_, _≤_, _<_, _^_};
 ghost use Rattle.arith.specs.Formats.{Sound, Finite};
