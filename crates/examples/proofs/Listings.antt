@@ -9,7 +9,6 @@ use Rattle.arith.specs.declared.interval.Interval.{Interval}
 use Rattle.arith.specs.Intervals.{endsFinite, isOrdered, canonicalIn, canonicalOf}
 use Rattle.sheet.specs.declared.kept.Record.{Record}
 use Rattle.sheet.specs.declared.kept.Kept.{Kept}
-use Rattle.sheet.specs.declared.narrowing.Run.{Run}
 use Rattle.sheet.specs.Faults.{headFault, cellFault, sumFault}
 use Rattle.sheet.specs.Narrowings.{narrowSheetOf}
 use Rattle.reader.specs.Numbers.{digitsFor}
@@ -20,7 +19,7 @@ use Rattle.reader.proofs.Building.{built, Sound}
 use Rattle.reader.proofs.RoundTrip.{lists-back}
 use Rattle.listing.specs.Listings.{cellLine, cellLines, linesOf, listingOf, runFor, runOf}
 use Rattle.examples.specs.Quoted.{bytes}
-use Rattle.examples.specs.Starred.{Listings, interval, point, one64, over, sheet000, chase, chased, text000, chaseText}
+use Rattle.examples.specs.Starred.{Listings, interval, over, chased, text000, chaseText}
 use Rattle.examples.proofs.Sheets.{sheets}
 
 -- ---- the text of cells and sums is run as their sheet
