@@ -87,7 +87,7 @@ pub(crate) fn extent_a(format: Format, x: Range, a: Range, b: Range, p: u64, q: 
     }
 }
 
-// Up to where to ask next, from low up to, and without, high: first at low alone where much is left, then for all, then for the lower half.
+// Up to where to ask next, from low up to, and without, high: on the first turn at low alone where much is left; on the first two else for all; then for the lower half.
 fn question(low: u64, high: u64, first: bool, near: bool) -> u64
     requires { ⌜ low < high ⌝ }
     ensures { λ r. ⌜ (low ≤ r) × (r < high) ⌝ }
