@@ -18,17 +18,18 @@ use Rattle.sheet.specs.declared.kept.Record.{Record}
 use Rattle.sheet.specs.declared.kept.Sheet.{Sheet}
 use Rattle.sheet.specs.declared.kept.Answer.{Answer}
 use Rattle.sheet.specs.declared.kept.Answer.the-variants.{Done, Refused}
+use Rattle.sheet.specs.declared.passes.Outcome.{Outcome}
 use Rattle.sheet.specs.declared.narrowing.Run.{Run}
 use Rattle.sheet.specs.Faults.{headFault}
 use Rattle.sheet.specs.Sheets.{noCell, noSum, usedCells, usedSums, tidied, testLists, testOf}
 use Rattle.sheet.specs.Boxes.{Box}
-use Rattle.sheet.specs.Runs.{Ended, settled, stopped, noTriple, run}
+use Rattle.sheet.specs.Runs.{Ended, settled, stopped, noTriple, run, endNumber, endValues}
 use Rattle.sheet.specs.Consistency.{Demand3}
 use Rattle.sheet.specs.Cells.{fractionOf, exponentOf, boxOf, cellsOf}
 use Rattle.sheet.specs.Steps.{places, endOf}
-use Rattle.sheet.specs.Narrowings.{outcomeNumber, ranOn, runAfter, narrowSheetOf, Narrows}
+use Rattle.sheet.specs.Narrowings.{outcomeNumber, outcomeValues, ranOn, runAfter, narrowSheetOf, Narrows}
 use Rattle.sheet.specs.Loading.{puts, storedCells, storedCount, sheetOf}
-use Rattle.sheet.specs.Lists.{Lent, endOfLists, lentBy, lentAfter, narrowListsOf, NarrowsLists}
+use Rattle.sheet.specs.Lists.{Lent, endOfLists, testOfLists, lentBy, lentAfter, narrowListsOf, NarrowsLists}
 use Rattle.sheet.proofs.Answers.{test-head, test-many-cells, test-many-sums}
 use Rattle.sheet.proofs.Filling.{length-filled}
 use Rattle.sheet.proofs.Demand.{pass-shrinks, run-all}
@@ -83,11 +84,46 @@ module _ (width limit : ℕ) (ys : List Interval) (zs : List Record) where
   made = sheetOf width limit ys zs
 
   abbrev tested : Answer
-  tested = testLists width limit (length ys) (length zs) ys zs
+  tested = testOfLists width limit ys zs
+
+  abbrev ended : Ended
+  ended = endOfLists width limit ys zs
 
   -- what the walk leaves in the cells after a run
   abbrev kept : Run → List Interval
   kept r = storedCells ys (storedCount (r .outcome) (min (length ys) 64)) (r .sheet)
+
+  -- the number and values of the answer are the run's
+  told-by : (E : Ended) → (outcomeNumber (lentBy width ys E .outcome) ≡ endNumber E) × (outcomeValues (lentBy width ys E .outcome) ≡ endValues E)
+  told-by (settled p box) = (refl, refl)
+  told-by (stopped p box) = (refl, refl)
+  told-by (noTriple p k) = (refl, refl)
+
+  -- an answer leaves the cells as they were under every refusal but 12
+  abbrev Leaves : Outcome → List Interval → Type 0
+  Leaves o after = (outcomeNumber o ≡ 0 → ⊥) → (outcomeNumber o ≡ 12 → ⊥) → after ≡ ys
+
+  left-by : (E : Ended) → Leaves (lentBy width ys E .outcome) (lentBy width ys E .cells)
+  left-by (settled p box) a b = absurd (a refl)
+  left-by (stopped p box) a b = absurd (b refl)
+  left-by (noTriple p k) a b = refl
+
+  left-after : (a : Answer) → Leaves (lentAfter a width limit ys zs .outcome) (lentAfter a width limit ys zs .cells)
+  left-after Done = left-by ended
+  left-after (Refused q) = λ a b. refl
+
+  -- so of every outcome and cells that are the answer's
+  module _ (o : Outcome) (after : List Interval) (e : o ≡ narrowListsOf width limit ys zs .outcome) (f : after ≡ narrowListsOf width limit ys zs .cells) where
+    lists-told : tested ≡ Done → (outcomeNumber o ≡ endNumber ended) × (outcomeValues o ≡ endValues ended)
+    unfolding narrowListsOf
+    lists-told d =
+        let w : o ≡ lentBy width ys ended .outcome = e ∙ ap (λ (a : Answer). lentAfter a width limit ys zs .outcome) d in
+        let t = told-by ended in
+        (ap outcomeNumber w ∙ t .0, ap outcomeValues w ∙ t .1)
+
+    lists-left : Leaves o after
+    unfolding narrowListsOf
+    lists-left a b = f ∙ left-after tested (λ z. a (ap outcomeNumber e ∙ z)) (λ z. b (ap outcomeNumber e ∙ z))
 
   -- a run on the sheet and an answer of the lists say the same
   record Same (r : Run) (l : Lent) : Type 0 where
@@ -147,6 +183,8 @@ module _ (width limit : ℕ) (ys : List Interval) (zs : List Record) where
         record {
           outcome = same .outcome;
           cells = same .cells;
+          told = lists-told _ _ (same .outcome) (same .cells);
+          kept = lists-left _ _ (same .outcome) (same .cells);
           demand3 = subst (λ (t : Type 0). t) (λ i. Demand3 (fractionOf width) (exponentOf width) (used-sums i) (boxOf width (used-cells i)) (boxOf width (last i)) (outcomeNumber (r .outcome))) (h .demand3);
         }
 
@@ -158,9 +196,13 @@ module _ (width limit : ℕ) (ys : List Interval) (zs : List Record) where
         let e : r ≡ runAfter (Refused q) made = h .answer ∙ ap (λ (a : Answer). runAfter a made) (sym (all (usedCells made) (usedSums made))) in
         let l : lentAfter (Refused q) width limit ys zs ≡ narrowListsOf width limit ys zs = ap (λ (a : Answer). lentAfter a width limit ys zs) (all ys zs) in
         let n : outcomeNumber (r .outcome) ≡ q .number = ap (λ (t : Run). outcomeNumber (t .outcome)) e in
+        let o : r .outcome ≡ narrowListsOf width limit ys zs .outcome = ap (λ (t : Run). t .outcome) e ∙ ap (λ (t : Lent). t .outcome) l in
+        let c : kept r ≡ narrowListsOf width limit ys zs .cells = ap kept e ∙ ap (λ (t : Lent). t .cells) l in
         record {
-          outcome = ap (λ (t : Run). t .outcome) e ∙ ap (λ (t : Lent). t .outcome) l;
-          cells = ap kept e ∙ ap (λ (t : Lent). t .cells) l;
+          outcome = o;
+          cells = c;
+          told = lists-told _ _ o c;
+          kept = lists-left _ _ o c;
           demand3 = record { settled = λ z. absurd (omega (arith, n, z)); stopped = λ z. absurd (omega (arith, n, z)); none = λ z box k. absurd (omega (arith, n, z)) };
         }
 

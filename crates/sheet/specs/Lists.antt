@@ -10,10 +10,10 @@ use Rattle.sheet.specs.declared.kept.Answer.the-variants as Answer
 use Rattle.sheet.specs.declared.passes.Outcome.{Outcome}
 use Rattle.sheet.specs.declared.passes.Outcome.the-variants.{Settled, NoTriple, Stopped, Refused}
 use Rattle.sheet.specs.Sheets.{testLists}
-use Rattle.sheet.specs.Runs.{Ended, settled, stopped, noTriple, run}
+use Rattle.sheet.specs.Runs.{Ended, settled, stopped, noTriple, run, endNumber, endValues}
 use Rattle.sheet.specs.Consistency.{Demand3}
 use Rattle.sheet.specs.Cells.{fractionOf, exponentOf, boxOf, cellsOf}
-use Rattle.sheet.specs.Narrowings.{outcomeNumber}
+use Rattle.sheet.specs.Narrowings.{outcomeNumber, outcomeValues}
 
 -- the outcome of a call, and what the lent cells then hold
 pub record Lent : Type 0 where
@@ -30,6 +30,10 @@ lentBy width cells (settled p box) = record { outcome = Settled p; cells = cells
 lentBy width cells (stopped p box) = record { outcome = Stopped p; cells = cellsOf width box }
 lentBy width cells (noTriple p k) = record { outcome = NoTriple p k; cells = cells }
 
+-- the lists' test
+abbrev pub testOfLists : ℕ → ℕ → List Interval → List Record → Answer
+testOfLists width limit cells sums = testLists width limit (length cells) (length sums) cells sums
+
 -- the lists' test first, then the run; a refusal leaves the cells as they were
 abbrev pub lentAfter : Answer → ℕ → ℕ → List Interval → List Record → Lent
 lentAfter Answer.Done width limit cells sums = lentBy width cells (endOfLists width limit cells sums)
@@ -37,12 +41,16 @@ lentAfter (Answer.Refused r) width limit cells sums = record { outcome = Refused
 
 -- 1; 7; 10 for the cells, then for the sums; 2 and 3 cell by cell; 5 and 6 sum by sum; then the passes
 unfoldable pub narrowListsOf : ℕ → ℕ → List Interval → List Record → Lent
-narrowListsOf width limit cells sums = lentAfter (testLists width limit (length cells) (length sums) cells sums) width limit cells sums
+narrowListsOf width limit cells sums = lentAfter (testOfLists width limit cells sums) width limit cells sums
 
--- what the call promises: the outcome, every lent cell afterwards, and demand 3 on the cells first given
+-- what the call promises: the outcome; every lent cell afterwards; where the lists pass their test, the run's number and values; that every refusal but 12 leaves the cells as they were; and demand 3 on the cells first given
 pub record NarrowsLists (width limit : ℕ) (given : List Interval) (sums : List Record) (after : List Interval) (r : Outcome) : Type 0 where
   pub outcome : r ≡ narrowListsOf width limit given sums .outcome
   pub cells : after ≡ narrowListsOf width limit given sums .cells
+  pub told :
+      testOfLists width limit given sums ≡ Answer.Done →
+      (outcomeNumber r ≡ endNumber (endOfLists width limit given sums)) × (outcomeValues r ≡ endValues (endOfLists width limit given sums))
+  pub kept : (outcomeNumber r ≡ 0 → ⊥) → (outcomeNumber r ≡ 12 → ⊥) → after ≡ given
   pub demand3 :
       Demand3 (fractionOf width) (exponentOf width) sums
       (boxOf width given) (boxOf width after) (outcomeNumber r)
