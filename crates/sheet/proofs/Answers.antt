@@ -16,7 +16,7 @@ use Rattle.sheet.specs.declared.kept.Answer.{Answer}
 use Rattle.sheet.specs.declared.kept.Answer.the-variants.{Done, Refused}
 use Rattle.sheet.specs.declared.kept.Kept.{Kept}
 use Rattle.sheet.specs.Faults.{headFault, cellFault, sumFault}
-use Rattle.sheet.specs.Sheets.{answerNumber, answerPlace, refusedAt, andThen, require, faultAt, firstFault, testLists, addTest, keptBy, blank, openOf}
+use Rattle.sheet.specs.Sheets.{refusedAt, andThen, require, faultAt, firstFault, testLists, addTest, keptBy, blank, openOf}
 
 -- ---- opening
 module _ (width limit n : ℕ) (e : n ≡ headFault width limit) where
@@ -127,17 +127,3 @@ pub added :
     (old new : Sheet) (tested : Answer) (fault : ℕ) (room : Bool) → tested ≡ Done → fault ≡ 0 → room ≡ true →
     _≡_ {A = Kept} (record { sheet = new; answer = Done }) (keptBy (addTest tested fault room) old new)
 added old new tested fault room e z t = ap (λ (u : Bool). keptBy (require u 10 0) old new) (sym t) ∙ ap (λ (a : Answer). keptBy a old new) (add-room tested fault room e z)
-
--- a refusal hands the sheet back as it came
-pub refused-kept : (old new : Sheet) (a : Answer) → (answerNumber (keptBy a old new .answer) ≡ 0 → ⊥) → keptBy a old new .sheet ≡ old
-refused-kept old new Done p = absurd (p refl)
-refused-kept old new (Refused r) p = refl
-
--- and what is being added is refused at place 0
-pub added-place : (fault : ℕ) (room : Bool) → answerPlace (addTest Done fault room) ≡ 0
-added-place fault room = go (eqb fault 0) room
-  where
-    go : (t u : Bool) → answerPlace (andThen (require t fault 0) (require u 10 0)) ≡ 0
-    go true true = refl
-    go true false = refl
-    go false u = refl

@@ -1,6 +1,7 @@
 pub mod Firsts
 pub mod Filling
 pub mod Answers
+pub mod Replies
 pub mod Cells
 pub mod Boxes
 pub mod Demand

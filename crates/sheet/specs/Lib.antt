@@ -2,6 +2,7 @@ pub mod Faults
 pub mod Boxes
 pub mod Cells
 pub mod Sheets
+pub mod Replies
 pub mod Runs
 pub mod Consistency
 pub mod Outcomes

@@ -71,16 +71,6 @@ withCells s cells =
     }
 
 -- ---- answers
--- 01's number of each case: 0 where nothing is refused
-abbrev pub answerNumber : Answer → ℕ
-answerNumber Done = 0
-answerNumber (Refused r) = r .number
-
--- and its place
-abbrev pub answerPlace : Answer → ℕ
-answerPlace Done = 0
-answerPlace (Refused r) = r .place
-
 -- the refusal of a number at a place
 abbrev pub refusedAt : ℕ → ℕ → Answer
 refusedAt number place = Refused (record { number = number; place = place })

@@ -1,6 +1,8 @@
 // Adding a cell or a sum to a kept sheet.
 ghost use mathlib.Core.Path.{_≡_};
-ghost use Rattle.sheet.specs.Sheets.{addTest, addCellOf, addSumOf};
+ghost use Rattle.sheet.specs.Cells.{canonicalCell};
+ghost use Rattle.sheet.specs.Sheets.{tidied, withCell, withSum, addTest, addCellOf, addSumOf};
+ghost use Rattle.sheet.specs.Replies.{addCellTests, addSumTests, Keeps};
 use crate::fault::cell_fault;
 use crate::fault::sum_fault;
 use crate::kept::Answer;
@@ -32,6 +34,7 @@ fn test_addition(tested: Answer, fault: u64, room: bool) -> Answer
 // Adds a cell; refusals of the sheet, then 2, 3, 10.
 pub fn add_cell(sheet: Sheet, cell: Interval) -> Kept
     ensures { λ r. ⌜ r ≡ addCellOf sheet cell ⌝ }
+    ensures { λ r. ⌜ Keeps sheet (withCell (tidied sheet) (canonicalCell (sheet .width) cell)) (addCellTests sheet cell) r ⌝ }
 {
     let count = sheet.cell_count;
     let fault = cell_fault(sheet.width, cell);
@@ -51,6 +54,7 @@ pub fn add_cell(sheet: Sheet, cell: Interval) -> Kept
 // Adds a sum; refusals of the sheet, then 5, 6, 10.
 pub fn add_sum(sheet: Sheet, sum: Record) -> Kept
     ensures { λ r. ⌜ r ≡ addSumOf sheet sum ⌝ }
+    ensures { λ r. ⌜ Keeps sheet (withSum (tidied sheet) sum) (addSumTests sheet sum) r ⌝ }
 {
     let count = sheet.sum_count;
     let fault = sum_fault(sheet.cell_count, sum);

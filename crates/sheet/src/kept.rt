@@ -1,6 +1,7 @@
 // The kept sheet, and the opening of one.
 ghost use mathlib.Core.Path.{_≡_};
 ghost use Rattle.sheet.specs.Sheets.{blank, openOf};
+ghost use Rattle.sheet.specs.Replies.{openTests, Keeps};
 use crate::fault::head_fault;
 use arith::interval::Interval;
 use arith::refusal::Refusal;
@@ -56,6 +57,7 @@ pub(crate) fn blank_sheet(width: u64, limit: u64) -> Sheet
 // Opens a sheet; refusals 1, 7. A refusal gives the blank sheet of width 0 and limit 0.
 pub fn open(width: u64, limit: u64) -> Kept
     ensures { λ r. ⌜ r ≡ openOf width limit ⌝ }
+    ensures { λ r. ⌜ Keeps (blank 0 0) (blank width limit) (openTests width limit) r ⌝ }
 {
     let fault = head_fault(width, limit);
     if fault != 0 {

@@ -9,7 +9,7 @@ open-requires c κs = tt
 
 returns : tie.Need-returns
 unfolding openOf headFault
-returns c = rw (c .before .«open» .ensures)
+returns c = rw (c .before .«open» .ensures .0)
 
 pub blank-sheet-spec : {M : Type 1} → statement M
 blank-sheet-spec = tie.close (tie.spec open-requires returns)

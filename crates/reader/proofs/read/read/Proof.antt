@@ -34,7 +34,7 @@ loop-less : tie.Need-loop-less Inv-loop μ-loop
 loop-less c = (rw (← c .before .before .before .before .before .next .ensures, c .before .before .before .width .given .1) at (follows (c .before .before .before .before .before .before .loop .inv))) .less
 
 loop-again : tie.Need-loop-again Inv-loop μ-loop
-loop-again c = rw (c .before .«open» .ensures) ((rw (← c .before .before .before .before .before .next .ensures, c .before .before .before .width .given .1) at (follows (c .before .before .before .before .before .before .loop .inv))) .reading)
+loop-again c = rw (c .before .«open» .ensures .0) ((rw (← c .before .before .before .before .before .next .ensures, c .before .before .before .width .given .1) at (follows (c .before .before .before .before .before .before .loop .inv))) .reading)
 
 enum-known-cell : tie.Need-enum-known-cell Inv-loop μ-loop
 enum-known-cell c = c .match .keys2
@@ -46,7 +46,7 @@ loop-less-2 : tie.Need-loop-less-2 Inv-loop μ-loop
 loop-less-2 c = (rw (← c .before .before .before .before .before .next .ensures, c .before .before .before .cell .given .1) at (follows (c .before .before .before .before .before .before .loop .inv))) .less
 
 loop-again-2 : tie.Need-loop-again-2 Inv-loop μ-loop
-loop-again-2 c = rw (c .before .add-cell .ensures) ((rw (← c .before .before .before .before .before .next .ensures, c .before .before .before .cell .given .1) at (follows (c .before .before .before .before .before .before .loop .inv))) .reading)
+loop-again-2 c = rw (c .before .add-cell .ensures .0) ((rw (← c .before .before .before .before .before .next .ensures, c .before .before .before .cell .given .1) at (follows (c .before .before .before .before .before .before .loop .inv))) .reading)
 
 enum-known-sum : tie.Need-enum-known-sum Inv-loop μ-loop
 enum-known-sum c = c .match .keys3
@@ -58,7 +58,7 @@ loop-less-3 : tie.Need-loop-less-3 Inv-loop μ-loop
 loop-less-3 c = (rw (← c .before .before .before .before .before .next .ensures, c .before .before .before .sum .given .1) at (follows (c .before .before .before .before .before .before .loop .inv))) .less
 
 loop-again-3 : tie.Need-loop-again-3 Inv-loop μ-loop
-loop-again-3 c = rw (c .before .add-sum .ensures) ((rw (← c .before .before .before .before .before .next .ensures, c .before .before .before .sum .given .1) at (follows (c .before .before .before .before .before .before .loop .inv))) .reading)
+loop-again-3 c = rw (c .before .add-sum .ensures .0) ((rw (← c .before .before .before .before .before .next .ensures, c .before .before .before .sum .given .1) at (follows (c .before .before .before .before .before .before .loop .inv))) .reading)
 
 enum-told : tie.Need-enum-told Inv-loop μ-loop
 enum-told c = c .match .keys4

@@ -9,6 +9,7 @@ use Rattle.sheet.specs.declared.kept.Answer.{Answer}
 use Rattle.sheet.specs.Faults.{sumFault}
 use Rattle.sheet.specs.Sheets.{testOf, tidied, addTest, withSum, addSumOf}
 use Rattle.sheet.proofs.Answers.{Admitted, admitted, add-kept, add-new}
+use Rattle.sheet.proofs.Replies.{add-sum-keeps}
 use Rattle.sheet.proofs.adding.add_sum.Statement.{statement}
 use Rattle.sheet.proofs.adding.add_sum.Tie as tie
 
@@ -50,7 +51,7 @@ unfolding addSumOf
 returns c =
     let g = c .before .before .before .before .before .args in
     let s = g .sheet in
-    add-kept s (withSum (tidied s) (g .sum)) _ _ (answered (c .before .before)) _ (c .enum-told .given .1)
+    add-sum-keeps s (g .sum) (add-kept s (withSum (tidied s) (g .sum)) _ _ (answered (c .before .before)) _ (c .enum-told .given .1))
 
 enum-told-2 : tie.Need-enum-told-2
 enum-told-2 c = c .match .keys2
@@ -72,7 +73,7 @@ unfolding addSumOf tidied
 returns-2 c =
     let g = c .before .before .before .before .before .before .args in
     let s = g .sheet in
-    rw (c .tidy .ensures) (add-new s (withSum (tidied s) (g .sum)) _ _ (answered (c .before .before .before)) (c .before .enum-told2 .given .1))
+    add-sum-keeps s (g .sum) (rw (c .tidy .ensures) (add-new s (withSum (tidied s) (g .sum)) _ _ (answered (c .before .before .before)) (c .before .enum-told2 .given .1)))
 
 pub add-sum-spec : {M : Type 1} → statement M
 add-sum-spec =

@@ -1,6 +1,7 @@
 -- `open` meets its contract.
 -- Assumes nothing.
 use Rattle.sheet.proofs.Answers.{open-refused, opened}
+use Rattle.sheet.proofs.Replies.{open-keeps}
 use Rattle.sheet.proofs.kept.open.Statement.{statement}
 use Rattle.sheet.proofs.kept.open.Tie as tie
 
@@ -17,7 +18,7 @@ returns : tie.Need-returns
 returns c =
     let s = c .before .before .before .before .args in
     let h = c .before .before .before .head-fault in
-    rw (c .before .blank-sheet .ensures, c .refuse .ensures) (open-refused (s .width) (s .limit) (h .result) (h .ensures) (c .before .before .if1 .taken))
+    open-keeps (s .width) (s .limit) (rw (c .before .blank-sheet .ensures, c .refuse .ensures) (open-refused (s .width) (s .limit) (h .result) (h .ensures) (c .before .before .if1 .taken)))
 
 blank-sheet-requires-2 : tie.Need-blank-sheet-requires-2
 blank-sheet-requires-2 c κs = tt
@@ -26,7 +27,7 @@ returns-2 : tie.Need-returns-2
 returns-2 c =
     let s = c .before .before .before .args in
     let h = c .before .before .head-fault in
-    rw (c .blank-sheet2 .ensures) (opened (s .width) (s .limit) (h .result) (h .ensures) (c .before .if1 .left))
+    open-keeps (s .width) (s .limit) (rw (c .blank-sheet2 .ensures) (opened (s .width) (s .limit) (h .result) (h .ensures) (c .before .if1 .left)))
 
 pub open-spec : {M : Type 1} → statement M
 open-spec =

@@ -1,0 +1,106 @@
+-- What opening and adding tell is the reply due, test by test.
+-- Assumes nothing.
+use mathlib.Core.Path.{_≡_, refl, sym, ap, ap₂, subst, _∙_}
+use mathlib.Core.Bool.{Bool, true, false, cond}
+use mathlib.Core.List.{List, [], _∷_, _++_, append-nil}
+use Prim.Native.Nat.{ℕ, _+_}
+use lib.Dec.{leb, ltb}
+use Rattle.arith.specs.declared.refusal.Refusal.{Refusal}
+use Rattle.arith.specs.declared.interval.Interval.{Interval}
+use Rattle.arith.specs.Answers.{Reply, refuses}
+use Rattle.sheet.specs.declared.kept.Record.{Record}
+use Rattle.sheet.specs.declared.kept.Sheet.{Sheet}
+use Rattle.sheet.specs.declared.kept.Answer.{Answer}
+use Rattle.sheet.specs.declared.kept.Answer.the-variants.{Done, Refused}
+use Rattle.sheet.specs.declared.kept.Kept.{Kept}
+use Rattle.sheet.specs.Cells.{canonicalCell}
+use Rattle.sheet.specs.Faults.{cellFault, sumFault}
+use Rattle.sheet.specs.Sheets.{andThen, require, faultAt, keptBy, blank, openOf, firstFault, testLists, testOf, usedCells, usedSums, addTest, tidied, withCell, withSum, addCellOf, addSumOf}
+use Rattle.sheet.specs.Replies.{Test, replyAfter, testAt, faultless, allFaultless, openTests, listTests, sheetTests, addCellTests, addSumTests, keptTold, Keeps}
+
+-- ---- the answer of some tests
+abbrev pub answerAfter : List Test → Answer
+answerAfter [] = Done
+answerAfter (t ∷ ts) = cond (t .0) (answerAfter ts) (Refused (t .1))
+
+-- tests after tests
+then-after : (ts us : List Test) → andThen (answerAfter ts) (answerAfter us) ≡ answerAfter (ts ++ us)
+then-after [] us = refl
+then-after (t ∷ ts) us = go (t .0) (then-after ts us)
+  where
+    go : (ok : Bool) → andThen (answerAfter ts) (answerAfter us) ≡ answerAfter (ts ++ us) → andThen (cond ok (answerAfter ts) (Refused (t .1))) (answerAfter us) ≡ cond ok (answerAfter (ts ++ us)) (Refused (t .1))
+    go true e = e
+    go false e = refl
+
+-- an answer after an answer
+both-after : (ts us : List Test) {a b : Answer} → a ≡ answerAfter ts → b ≡ answerAfter us → andThen a b ≡ answerAfter (ts ++ us)
+both-after ts us e f = ap₂ andThen e f ∙ then-after ts us
+
+first-after : {A : Type 0} (fault : A → ℕ) (i : ℕ) (l : List A) → firstFault fault i l ≡ answerAfter (allFaultless fault i l)
+unfolding firstFault allFaultless
+first-after fault i [] = refl
+first-after fault i (v ∷ vs) = both-after (faultless (fault v) i ∷ []) (allFaultless fault (i + 1) vs) refl (first-after fault (i + 1) vs)
+
+-- the test of lists, and so of a sheet
+pub lists-after : (width limit m n : ℕ) (cells : List Interval) (sums : List Record) → testLists width limit m n cells sums ≡ answerAfter (listTests width limit m n cells sums)
+unfolding testLists
+lists-after width limit m n cells sums =
+    let good = allFaultless (cellFault width) 0 cells in
+    let named = allFaultless (sumFault m) 0 sums in
+    let many = testAt (leb n 128) 10 128 in
+    let more = testAt (leb m 64) 10 64 in
+    both-after (openTests width limit) (more ∷ many ∷ (good ++ named)) refl
+    (both-after (more ∷ []) (many ∷ (good ++ named)) refl
+    (both-after (many ∷ []) (good ++ named) refl
+    (both-after good named (first-after (cellFault width) 0 cells) (first-after (sumFault m) 0 sums))))
+
+pub sheet-after : (s : Sheet) → testOf s ≡ answerAfter (sheetTests s)
+sheet-after s = lists-after (s .width) (s .limit) (s .«cell_count») (s .«sum_count») (usedCells s) (usedSums s)
+
+-- the order of adding
+add-after : (s : Sheet) (fault : ℕ) (room : Bool) → addTest (testOf s) fault room ≡ answerAfter (sheetTests s ++ faultless fault 0 ∷ testAt room 10 0 ∷ [])
+add-after s fault room = both-after (sheetTests s) (faultless fault 0 ∷ testAt room 10 0 ∷ []) (sheet-after s) (both-after (faultless fault 0 ∷ []) (testAt room 10 0 ∷ []) refl refl)
+
+-- ---- the reply
+-- what follows an answer tells the reply after its tests, where it tells each refusal and, with nothing refused, the reply after those that follow
+pub told-after : {B : Type 0} (told : Answer → Reply B) → ((q : Refusal) → told (Refused q) ≡ refuses q) → (ts us : List Test) (vs : List B) → told Done ≡ replyAfter us vs → told (answerAfter ts) ≡ replyAfter (ts ++ us) vs
+told-after told r [] us vs e = e
+told-after told r (t ∷ ts) us vs e = go (t .0) (told-after told r ts us vs e)
+  where
+    go : (ok : Bool) → told (answerAfter ts) ≡ replyAfter (ts ++ us) vs → told (cond ok (answerAfter ts) (Refused (t .1))) ≡ cond ok (replyAfter (ts ++ us) vs) (refuses (t .1))
+    go true k = k
+    go false k = r (t .1)
+
+module _ (old new : Sheet) where
+  kept-told : (ts : List Test) → keptTold (keptBy (answerAfter ts) old new) ≡ replyAfter ts (new ∷ [])
+  kept-told ts = told-after (λ a. keptTold (keptBy a old new)) (λ _. refl) ts [] (new ∷ []) refl ∙ ap (λ (us : List Test). replyAfter us (new ∷ [])) (append-nil ts)
+
+  -- a refusal hands the sheet back as it came
+  refused-kept : (a : Answer) → (keptTold (keptBy a old new) .number ≡ 0 → ⊥) → keptBy a old new .sheet ≡ old
+  refused-kept Done p = absurd (p refl)
+  refused-kept (Refused r) p = refl
+
+  keeps : (ts : List Test) (a : Answer) → a ≡ answerAfter ts → Keeps old new ts (keptBy a old new)
+  keeps ts a e = record { told = ap (λ (b : Answer). keptTold (keptBy b old new)) e ∙ kept-told ts; kept = refused-kept a }
+
+-- an answer that is the one defined keeps the same promise
+keeps-too : {old new : Sheet} {ts : List Test} {r d : Kept} → Keeps old new ts d → r ≡ d → (r ≡ d) × Keeps old new ts r
+keeps-too {old} {new} {ts} k e = (e, subst (Keeps old new ts) (sym e) k)
+
+-- ---- opening and adding
+pub open-keeps : (width limit : ℕ) {r : Kept} → r ≡ openOf width limit → (r ≡ openOf width limit) × Keeps (blank 0 0) (blank width limit) (openTests width limit) r
+unfolding openOf
+open-keeps width limit = keeps-too (keeps (blank 0 0) (blank width limit) (openTests width limit) _ refl)
+
+module _ (s : Sheet) where
+  pub add-cell-keeps :
+      (cell : Interval) {r : Kept} → r ≡ addCellOf s cell →
+      (r ≡ addCellOf s cell) × Keeps s (withCell (tidied s) (canonicalCell (s .width) cell)) (addCellTests s cell) r
+  unfolding addCellOf
+  add-cell-keeps cell = keeps-too (keeps s (withCell (tidied s) (canonicalCell (s .width) cell)) (addCellTests s cell) _ (add-after s (cellFault (s .width) cell) (ltb (s .«cell_count») 64)))
+
+  pub add-sum-keeps :
+      (sum : Record) {r : Kept} → r ≡ addSumOf s sum →
+      (r ≡ addSumOf s sum) × Keeps s (withSum (tidied s) sum) (addSumTests s sum) r
+  unfolding addSumOf
+  add-sum-keeps sum = keeps-too (keeps s (withSum (tidied s) sum) (addSumTests s sum) _ (add-after s (sumFault (s .«cell_count») sum) (ltb (s .«sum_count») 128)))
