@@ -1,14 +1,15 @@
 -- Reading a text record by record: what is left to read gives the same sheet as the whole text. Rests on specs/Readings and Moving.
-use mathlib.Core.Path.{_≡_, refl}
+use mathlib.Core.Path.{_≡_, refl, sym, subst}
 use mathlib.Core.List.{List}
 use Prim.Native.Nat.{ℕ, zero, suc, _-_, _<_, _≤_}
 use native.Mathlib.Omega.{arith}
 use lib.ListN.{length}
 use Rattle.sheet.specs.declared.kept.Sheet.{Sheet}
+use Rattle.sheet.specs.declared.kept.Kept.{Kept}
 use Rattle.sheet.specs.declared.kept.Answer.the-variants as Answer
 use Rattle.sheet.specs.Sheets.{blank, openOf, addCellOf, addSumOf}
 use Rattle.reader.specs.Steps.{start, nextOf}
-use Rattle.reader.specs.Readings.{followed, readFrom, readOf, refusedText}
+use Rattle.reader.specs.Readings.{followed, readFrom, readOf, refusedText, BlankIfRefused}
 use Rattle.reader.specs.declared.cursor.Cursor.{Cursor}
 use Rattle.reader.specs.declared.cursor.Step.{Step}
 use Rattle.reader.specs.declared.cursor.Step.the-variants.{Head, Cell, Sum, End, Refused}
@@ -56,3 +57,20 @@ read-follows text c s (suc n) h e = step-follows text c n h s (nextOf text c) (g
 
 pub follows : {text : List ℕ} {c : Cursor} {s : Sheet} → Reading text c s → Follows text c s (nextOf text c)
 follows {text} {c} {s} r = read-follows text c s (r .left) (r .enough) (r .same)
+
+-- ---- a refused text leaves the blank sheet
+step-blank : (go : Cursor → Sheet → Kept) → ((c : Cursor) (s : Sheet) → BlankIfRefused (go c s)) → (s : Sheet) (t : Step) → BlankIfRefused (followed go s t)
+step-blank go h s (Head w m d) = h d (openOf w m .sheet)
+step-blank go h s (Cell I d) = h d (addCellOf s I .sheet)
+step-blank go h s (Sum t d) = h d (addSumOf s t .sheet)
+step-blank go h s End = λ n. absurd (n refl)
+step-blank go h s (Refused r) = λ n. refl
+
+from-blank : (n : ℕ) (text : List ℕ) (c : Cursor) (s : Sheet) → BlankIfRefused (readFrom n text c s)
+unfolding readFrom
+from-blank zero text c s = λ n. absurd (n refl)
+from-blank (suc n) text c s = step-blank (readFrom n text) (from-blank n text) s (nextOf text c)
+
+pub blank-too : (text : List ℕ) {k : Kept} → k ≡ readOf text → (k ≡ readOf text) × BlankIfRefused k
+unfolding readOf
+blank-too text e = (e, subst BlankIfRefused (sym e) (from-blank (suc (length text)) text start (blank 0 0)))

@@ -1,4 +1,5 @@
 -- A whole text read as a kept sheet. Assumes nothing.
+use mathlib.Core.Path.{_≡_}
 use Prim.Native.Nat.{ℕ, zero, suc}
 use mathlib.Core.List.{List}
 use lib.ListN.{length}
@@ -7,6 +8,7 @@ use Rattle.sheet.specs.declared.kept.Sheet.{Sheet}
 use Rattle.sheet.specs.declared.kept.Kept.{Kept}
 use Rattle.sheet.specs.declared.kept.Answer.the-variants as Answer
 use Rattle.sheet.specs.Sheets.{blank, openOf, addCellOf, addSumOf}
+use Rattle.sheet.specs.Replies.{keptTold}
 use Rattle.reader.specs.Steps.{start, nextOf}
 use Rattle.reader.specs.declared.cursor.Cursor.{Cursor}
 use Rattle.reader.specs.declared.cursor.Step.{Step}
@@ -32,3 +34,7 @@ readFrom (suc n) text c s = followed (readFrom n text) s (nextOf text c)
 -- the whole text: a record takes at least a byte, so the end or a refusal comes within as many steps as it has bytes, and one
 unfoldable pub readOf : List ℕ → Kept
 readOf text = readFrom (suc (length text)) text start (blank 0 0)
+
+-- what a refused text leaves is the blank sheet, by the number that the answer tells
+abbrev pub BlankIfRefused : Kept → Type 0
+BlankIfRefused k = (keptTold k .number ≡ 0 → ⊥) → k .sheet ≡ blank 0 0

@@ -1,7 +1,7 @@
 -- What 01's reader gives at a cursor: the record there, the end of the text, or a refusal with its line. Assumes nothing.
 use Prim.Native.Nat.{ℕ, zero, suc, _+_}
 use mathlib.Core.Bool.{cond}
-use mathlib.Core.List.{List, [], _∷_}
+use mathlib.Core.List.{List, []}
 use lib.ListN.{length, take, drop}
 use lib.Dec.{eqb, ltb, leb}
 use Rattle.arith.specs.declared.interval.Interval.{Interval}
@@ -23,22 +23,6 @@ start = record { at = 0; line = 1; width = 0; «cell_count» = 0; «sum_count» 
 -- a refusal, with the line as its place
 abbrev pub refusedAt : ℕ → ℕ → Step
 refusedAt n line = Refused (record { number = n; place = line })
-
--- 01's number of each case: 0 where nothing is refused
-abbrev pub stepNumber : Step → ℕ
-stepNumber (Head w m c) = 0
-stepNumber (Cell I c) = 0
-stepNumber (Sum t c) = 0
-stepNumber End = 0
-stepNumber (Refused r) = r .number
-
--- 01's values of each case: the fields of a record; the line of a refusal
-abbrev pub stepValues : Step → List ℕ
-stepValues (Head w m c) = w ∷ m ∷ []
-stepValues (Cell I c) = I .low ∷ I .high ∷ []
-stepValues (Sum t c) = t .x ∷ t .a ∷ t .b ∷ []
-stepValues End = []
-stepValues (Refused r) = r .place ∷ []
 
 -- ---- a record whose line is well formed; the cursor c stands past the line, with the record not yet counted
 -- a head, in the order of opening: 1, 7. Cells and sums are counted from it on

@@ -1,6 +1,7 @@
 // The cursor: a position in a text with what the reader keeps, and the record that stands there.
 ghost use mathlib.Core.Path.{_≡_};
 ghost use Rattle.reader.specs.Steps.{start, refusedAt, headStep, cellStep, sumStep, admitted, lineAfter, nextOf, past, advanceOf, cursorAfter, recordAt};
+ghost use Rattle.reader.specs.Replies.{stepTold, replyNext, Tells};
 use crate::bytes::find;
 use crate::bytes::rest;
 use crate::bytes::until;
@@ -163,6 +164,7 @@ fn admit(l: Line, line: u64, c: Cursor) -> Step
 // The record at the cursor, or the refusal due there. A refusal leaves the cursor where it is.
 pub fn next(text: &[u8], c: Cursor) -> Step
     ensures { λ r. ⌜ r ≡ nextOf (now (text .entry)) c ⌝ }
+    ensures { λ r. ⌜ stepTold r ≡ replyNext (now (text .entry)) c ⌝ }
 {
     if 8192 < text.len() {
         return refuse_at(8, 0);
@@ -205,7 +207,7 @@ fn past(step: Step, c: Cursor) -> Cursor
 
 // The step from a cursor, and the cursor after it.
 pub fn advance(text: &[u8], c: Cursor) -> Moved
-    ensures { λ r. ⌜ r ≡ advanceOf (now (text .entry)) c ⌝ }
+    ensures { λ r. ⌜ (r ≡ advanceOf (now (text .entry)) c) × Tells (now (text .entry)) c (r .step) (r .cursor) ⌝ }
 {
     let step = next(text, c);
     Moved {

@@ -1,6 +1,6 @@
 // Reads a whole text into a kept sheet.
 ghost use mathlib.Core.Path.{_≡_};
-ghost use Rattle.reader.specs.Readings.{readOf};
+ghost use Rattle.reader.specs.Readings.{readOf, BlankIfRefused};
 ghost use Rattle.sheet.specs.Sheets.{blank};
 use crate::cursor::Cursor;
 use crate::cursor::Step;
@@ -23,6 +23,7 @@ fn blank_sheet() -> Sheet
 // The sheet that the text describes, or the first refusal with the blank sheet.
 pub fn read(text: &[u8]) -> Kept
     ensures { λ r. ⌜ r ≡ readOf (now (text .entry)) ⌝ }
+    ensures { λ r. ⌜ BlankIfRefused r ⌝ }
 {
     let mut cursor = Cursor::new();
     let mut sheet = blank_sheet();

@@ -2,6 +2,7 @@
 // The borrow checker covers no function over such a struct, so each is proved by hand. A caller of `nth` and `part`, whose parameters are plain, is covered.
 ghost use mathlib.Core.Path.{_≡_};
 ghost use Rattle.reader.specs.Steps.{start, nextOf, afterOf, cursorAfter, recordAt};
+ghost use Rattle.reader.specs.Replies.{stepTold, replyNext, Tells};
 use crate::cursor::Cursor;
 use crate::cursor::Step;
 use crate::cursor::advance;
@@ -39,7 +40,7 @@ impl<'a> Reader<'a> {
 
     // The record at the reader, the end of the text or the refusal due there, and the reader after it. It stays at a refused record and at the end.
     pub fn next(self) -> Given<'a>
-        ensures { λ r. ⌜ (r .reader .text ≡ self .entry .text) × ((r .reader .cursor ≡ afterOf (now (self .entry .text)) (self .entry .cursor)) × (r .step ≡ nextOf (now (self .entry .text)) (self .entry .cursor))) ⌝ }
+        ensures { λ r. ⌜ (r .reader .text ≡ self .entry .text) × ((r .reader .cursor ≡ afterOf (now (self .entry .text)) (self .entry .cursor)) × ((r .step ≡ nextOf (now (self .entry .text)) (self .entry .cursor)) × Tells (now (self .entry .text)) (self .entry .cursor) (r .step) (r .reader .cursor))) ⌝ }
     {
         let a = advance(self.text, self.cursor);
         Given {
@@ -61,7 +62,7 @@ impl<'a> Reader<'a> {
 
 // The record after the first n of a text. It is the refused one, or the end of the text, where either comes sooner.
 pub fn nth(text: &[u8], n: u16) -> Step
-    ensures { λ r. ⌜ r ≡ nextOf (now (text .entry)) (cursorAfter n (now (text .entry))) ⌝ }
+    ensures { λ r. ⌜ (r ≡ nextOf (now (text .entry)) (cursorAfter n (now (text .entry)))) × (stepTold r ≡ replyNext (now (text .entry)) (cursorAfter n (now (text .entry)))) ⌝ }
 {
     let cursor = skip(text, n);
     let given = Reader { text, cursor }.next();

@@ -42,7 +42,7 @@ loop-again : tie.Need-loop-again Inv-loop μ-loop
 unfolding advanceOf
 loop-again c =
     let text : List ℕ = c .before .before .before .before .before .before .args .text .now in
-    (ap (λ (m : Moved). m .cursor) (c .before .advance .ensures) ∙ ap (afterOf text) (c .before .before .before .loop .inv .0) ∙ sym (one-more text (c .before .before .before .loop .i)), omega arith)
+    (ap (λ (m : Moved). m .cursor) (c .before .advance .ensures .0) ∙ ap (afterOf text) (c .before .before .before .loop .inv .0) ∙ sym (one-more text (c .before .before .before .loop .i)), omega arith)
 
 returns : tie.Need-returns Inv-loop μ-loop
 returns c =

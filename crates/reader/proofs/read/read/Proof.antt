@@ -2,7 +2,7 @@
 use mathlib.Core.Path.{sym}
 use lib.ListN.{length}
 use Prim.Native.Nat.{_-_}
-use Rattle.reader.proofs.Following.{Reading, begun, follows}
+use Rattle.reader.proofs.Following.{Reading, begun, follows, blank-too}
 use Rattle.reader.proofs.read.read.Statement.{statement}
 use Rattle.reader.proofs.read.read.Tie as tie
 
@@ -31,10 +31,10 @@ open-requires : tie.Need-open-requires Inv-loop μ-loop
 open-requires c κs = tt
 
 loop-less : tie.Need-loop-less Inv-loop μ-loop
-loop-less c = (rw (← c .before .before .before .before .before .next .ensures, c .before .before .before .width .given .1) at (follows (c .before .before .before .before .before .before .loop .inv))) .less
+loop-less c = (rw (← c .before .before .before .before .before .next .ensures .0, c .before .before .before .width .given .1) at (follows (c .before .before .before .before .before .before .loop .inv))) .less
 
 loop-again : tie.Need-loop-again Inv-loop μ-loop
-loop-again c = rw (c .before .«open» .ensures .0) ((rw (← c .before .before .before .before .before .next .ensures, c .before .before .before .width .given .1) at (follows (c .before .before .before .before .before .before .loop .inv))) .reading)
+loop-again c = rw (c .before .«open» .ensures .0) ((rw (← c .before .before .before .before .before .next .ensures .0, c .before .before .before .width .given .1) at (follows (c .before .before .before .before .before .before .loop .inv))) .reading)
 
 enum-known-cell : tie.Need-enum-known-cell Inv-loop μ-loop
 enum-known-cell c = c .match .keys2
@@ -43,10 +43,10 @@ add-cell-requires : tie.Need-add-cell-requires Inv-loop μ-loop
 add-cell-requires c κs = tt
 
 loop-less-2 : tie.Need-loop-less-2 Inv-loop μ-loop
-loop-less-2 c = (rw (← c .before .before .before .before .before .next .ensures, c .before .before .before .cell .given .1) at (follows (c .before .before .before .before .before .before .loop .inv))) .less
+loop-less-2 c = (rw (← c .before .before .before .before .before .next .ensures .0, c .before .before .before .cell .given .1) at (follows (c .before .before .before .before .before .before .loop .inv))) .less
 
 loop-again-2 : tie.Need-loop-again-2 Inv-loop μ-loop
-loop-again-2 c = rw (c .before .add-cell .ensures .0) ((rw (← c .before .before .before .before .before .next .ensures, c .before .before .before .cell .given .1) at (follows (c .before .before .before .before .before .before .loop .inv))) .reading)
+loop-again-2 c = rw (c .before .add-cell .ensures .0) ((rw (← c .before .before .before .before .before .next .ensures .0, c .before .before .before .cell .given .1) at (follows (c .before .before .before .before .before .before .loop .inv))) .reading)
 
 enum-known-sum : tie.Need-enum-known-sum Inv-loop μ-loop
 enum-known-sum c = c .match .keys3
@@ -55,16 +55,18 @@ add-sum-requires : tie.Need-add-sum-requires Inv-loop μ-loop
 add-sum-requires c κs = tt
 
 loop-less-3 : tie.Need-loop-less-3 Inv-loop μ-loop
-loop-less-3 c = (rw (← c .before .before .before .before .before .next .ensures, c .before .before .before .sum .given .1) at (follows (c .before .before .before .before .before .before .loop .inv))) .less
+loop-less-3 c = (rw (← c .before .before .before .before .before .next .ensures .0, c .before .before .before .sum .given .1) at (follows (c .before .before .before .before .before .before .loop .inv))) .less
 
 loop-again-3 : tie.Need-loop-again-3 Inv-loop μ-loop
-loop-again-3 c = rw (c .before .add-sum .ensures .0) ((rw (← c .before .before .before .before .before .next .ensures, c .before .before .before .sum .given .1) at (follows (c .before .before .before .before .before .before .loop .inv))) .reading)
+loop-again-3 c = rw (c .before .add-sum .ensures .0) ((rw (← c .before .before .before .before .before .next .ensures .0, c .before .before .before .sum .given .1) at (follows (c .before .before .before .before .before .before .loop .inv))) .reading)
 
 enum-told : tie.Need-enum-told Inv-loop μ-loop
 enum-told c = c .match .keys4
 
 returns : tie.Need-returns Inv-loop μ-loop
-returns c = sym (rw (← c .before .before .next .ensures, c .enum-told .given .1) at (follows (c .before .before .before .loop .inv)))
+returns c =
+    let e = sym (rw (← c .before .before .next .ensures .0, c .enum-told .given .1) at (follows (c .before .before .before .loop .inv))) in
+    blank-too (c .before .before .before .before .before .before .before .args .text .now) e
 
 enum-known-r : tie.Need-enum-known-r Inv-loop μ-loop
 enum-known-r c = c .match .keys5
@@ -73,7 +75,7 @@ blank-sheet-requires-2 : tie.Need-blank-sheet-requires-2 Inv-loop μ-loop
 blank-sheet-requires-2 c κs = tt
 
 returns-2 : tie.Need-returns-2 Inv-loop μ-loop
-returns-2 c = rw (c .blank-sheet2 .ensures) (sym (rw (← c .before .before .before .before .next .ensures, c .before .before .r .given .1) at (follows (c .before .before .before .before .before .loop .inv))))
+returns-2 c = blank-too (c .before .before .before .before .before .before .before .before .before .args .text .now) (rw (c .blank-sheet2 .ensures) (sym (rw (← c .before .before .before .before .next .ensures .0, c .before .before .r .given .1) at (follows (c .before .before .before .before .before .loop .inv)))))
 
 pub read-spec : {M : Type 1} → statement M
 read-spec =

@@ -40,11 +40,14 @@ use denote.Triple.Table.{entered, cited}
 use denote.Triple.Walked.{says, Stays, stay-none, stay-none-slice, walkOf, goes-none, goes-none-slice, Walks, ends-at, walked, walk-meets}
 use denote.Exit.{yes}
 use denote.Triple.Clauses.{ensured, lasts}
+use Rattle.arith.proofs.Replies.{told-too}
 use Rattle.reader.specs.Steps.{nextOf, afterOf}
+use Rattle.reader.specs.Replies.{stepTold, Tells}
 use Rattle.reader.specs.declared.cursor.Cursor.{Cursor}
 use Rattle.reader.specs.declared.cursor.Step.{Step}
 use Rattle.reader.specs.declared.text.Reader.{Reader}
 use Rattle.reader.specs.declared.text.Given.{Given as Gave}
+use Rattle.reader.proofs.Replies.{next-told}
 use Rattle.reader.proofs.Held.{B}
 use Rattle.reader.proofs.Made.{val, Text, at, place, reader, made, typed, Skip, to-skip, goes-skip, skip-said, shut}
 use Rattle.reader.proofs.cursor.Cursor as K
@@ -92,7 +95,7 @@ module _ {M : Type 1} (𝓤 : URA M) (H : Heap 𝓤) (A : Atoms 𝓤) (W : Given
   goes-next r u = qed W (‵ (B (κ, tt) .own r (u ∷ [])) ∷ (‵ (flft κ q) ⊛ ‵ ftrue) ∷ []) ∵ nothing ! $ move ! (1 ∷ 0 ∷ []) $ fjoin ! $ move ! (1 ∷ 0 ∷ []) $ join ! $ frame ! $ done !
 
   abbrev Says : Reader → Gave → Type 0
-  Says r g = (g .reader .text ≡ r .text) × ((g .reader .cursor ≡ afterOf (now (r .text)) (r .cursor)) × (g .step ≡ nextOf (now (r .text)) (r .cursor)))
+  Says r g = (g .reader .text ≡ r .text) × ((g .reader .cursor ≡ afterOf (now (r .text)) (r .cursor)) × ((g .step ≡ nextOf (now (r .text)) (r .cursor)) × Tells (now (r .text)) (r .cursor) (g .step) (g .reader .cursor)))
 
   next-said : (r : Reader) (g : Gave) → ent 𝓤 (ensured 𝓤 H A next.ended (next.clauses 𝓤 H A mem run) (κ, tt) (r, tt) tt g) (fact 𝓤 (Says r g))
   next-said r g = exE 𝓤 _ (λ ws. snd∗ 𝓤 (sem 𝓤 H A (lasts next.ended (κ, tt) (r, tt) ws)) (fact 𝓤 (Says r g)))
@@ -115,7 +118,7 @@ module _ {M : Type 1} (𝓤 : URA M) (H : Heap 𝓤) (A : Atoms 𝓤) (W : Given
   exits : n < 2 ^ 16 → (t : Step) (u : Val) → t ≡ found → ent 𝓤 (⋆ 𝓤 H A (‵ (S.the-row .own t (u ∷ [])) ∷ (‵ (flft κ q) ⊛ ‵ ftrue) ∷ ‵ (Text κ s) ∷ [])) (Post u)
   exits g t u e =
       qed W (‵ (S.the-row .own t (u ∷ [])) ∷ (‵ (flft κ q) ⊛ ‵ ftrue) ∷ ‵ (Text κ s) ∷ []) ∵
-      suffices ! _ (ends-at 𝓤 H A nth.ended stayed (nth.clauses 𝓤 H A mem run) W (((κ, tt), (q, tt), tt, (s, (n, tt)), at s n), tt) u t (tt, (tt, tt)) (tt, (tt, tt))) $ says ! e $
+      suffices ! _ (ends-at 𝓤 H A nth.ended stayed (nth.clauses 𝓤 H A mem run) W (((κ, tt), (q, tt), tt, (s, (n, tt)), at s n), tt) u t (tt, (tt, tt)) (tt, (tt, tt))) $ says ! (told-too stepTold (next-told (now s) (place s n)) e) $
       move ! (1 ∷ []) $ frame ! $ nothing ! $ owned ! u16 (Is u16) (uint-makes 𝓤 H A W w16) n _ (refl, g) $ fjoin ! $ move ! (2 ∷ 0 ∷ []) $ fjoin ! $ frame ! $ done !
 
   module _ (C : Calls 𝓤 H) (Λ : Loops 𝓤 H) (fm : FmC 𝓤 H (W .laws) C) (known-skip : Triple 𝓤 (C #reader·skip) (Skip 𝓤 H A mem run)) (known-next : Triple 𝓤 (C #reader·next) (Next 𝓤 H A mem run)) where
@@ -148,7 +151,7 @@ module _ {M : Type 1} (𝓤 : URA M) (H : Heap 𝓤) (A : Atoms 𝓤) (W : Given
         assigns ! (of-opd ! (load ! (from ! (fld ! refl (stop !))) (look-in ! 5 (sub ! 1 refl (whole !))))) (from ! (stop !)) (init ! 13 refl (EL.lawful S.the-type S′.the-laws 𝓤 H A W tt .typed (r .step) _ is″ .0)) $
         returns ! (look ! 13 refl) $ forget ! 3 refl $ forget ! 5 refl $ forget ! 7 refl $ forget ! 9 refl $ forget ! 11 refl $ forget ! 13 refl $
         move ! (13 ∷ 14 ∷ []) $ free1 ! $ move ! (11 ∷ 12 ∷ []) $ free1 ! $ move ! (9 ∷ 10 ∷ []) $ free1 ! $ move ! (7 ∷ 8 ∷ []) $ free1 ! $ move ! (5 ∷ 6 ∷ []) $ free1 ! $ move ! (3 ∷ 4 ∷ []) $ free1 ! $ free0 ! $
-        by ! (exits g (r .step) _ (e′ .1 .1 ∙ ap (nextOf (now s)) e))))))))))))))))))
+        by ! (exits g (r .step) _ (e′ .1 .1 .0 ∙ ap (nextOf (now s)) e))))))))))))))))))
 
 module _ {M : Type 1} (𝓤 : URA M) (H : Heap 𝓤) (A : Atoms 𝓤) (W : Given 𝓤 H A) (mem : Memory → SProp 𝓤) (run : Routine → Fun 𝓤) where
   nth-walks : (C : Calls 𝓤 H) (Λ : Loops 𝓤 H) → FmC 𝓤 H (W .laws) C → Triple 𝓤 (C #reader·skip) (Skip 𝓤 H A mem run) → Triple 𝓤 (C #reader·next) (Next 𝓤 H A mem run)

@@ -39,6 +39,7 @@ use denote.Triple.Walked.{says, Stays, stay-none, walkOf, goes-none, Walks, ends
 use denote.Exit.{yes}
 use denote.Triple.Clauses.{ensured, lasts}
 use Rattle.reader.specs.Steps.{advanceOf}
+use Rattle.reader.specs.Replies.{Tells}
 use Rattle.reader.specs.declared.text.Reader.{Reader}
 use Rattle.reader.specs.declared.text.Given.{Given as Gave}
 use Rattle.reader.specs.declared.cursor.Moved.{Moved}
@@ -103,9 +104,12 @@ module _ {M : Type 1} (𝓤 : URA M) (H : Heap 𝓤) (A : Atoms 𝓤) (W : Given
   asked : ent 𝓤 (onEntry 𝓤 H A callee.signature (κ, tt) (q, tt) (d .text, (d .cursor, tt)) (passed d)) (Advances 𝓤 H A mem run .pre to)
   asked = qed W ((‵ (flft κ q) ⊛ ‵ ftrue) ∷ ‵ (owns (ShrSlice (named 0) κ u8 ∷ K.the-row ∷ []) (d .text, (d .cursor, tt)) (passed d)) ∷ []) ∵ join ! $ frame ! $ done !
 
-  -- of the callee's `ensured`, the clause alone: it has no `&mut`, so what is said of last values is dropped
-  said : (m : Moved) → ent 𝓤 (ensured 𝓤 H A callee.ended (callee.clauses 𝓤 H A mem run) (κ, tt) (d .text, (d .cursor, tt)) tt m) (fact 𝓤 (m ≡ found))
-  said m = exE 𝓤 _ (λ ws. snd∗ 𝓤 (sem 𝓤 H A (lasts callee.ended (κ, tt) (d .text, (d .cursor, tt)) ws)) (fact 𝓤 (m ≡ found)))
+  abbrev Says : Moved → Type 0
+  Says m = (m ≡ found) × Tells (now (d .text)) (d .cursor) (m .step) (m .cursor)
+
+  -- of the callee's `ensured`, the clauses alone: it has no `&mut`, so what is said of last values is dropped
+  said : (m : Moved) → ent 𝓤 (ensured 𝓤 H A callee.ended (callee.clauses 𝓤 H A mem run) (κ, tt) (d .text, (d .cursor, tt)) tt m) (fact 𝓤 (Says m))
+  said m = exE 𝓤 _ (λ ws. snd∗ 𝓤 (sem 𝓤 H A (lasts callee.ended (κ, tt) (d .text, (d .cursor, tt)) ws)) (fact 𝓤 (Says m)))
 
   -- the struct with another cursor, what is given, and its machine value
   abbrev at : Moved → Reader
@@ -117,12 +121,12 @@ module _ {M : Type 1} (𝓤 : URA M) (H : Heap 𝓤) (A : Atoms 𝓤) (W : Given
   abbrev made : Moved → Val
   made m = vstruct (vcons (T′.lowered (at m)) (vcons (stepVal m) vnil))
 
-  exits : (m : Moved) → m ≡ found → ent 𝓤 (⋆ 𝓤 H A (‵ (OwnCursor m) ∷ ‵ (OwnStep m) ∷ (‵ (flft κ q) ⊛ ‵ ftrue) ∷ ‵ (Own κ d) ∷ [])) (Post (made m))
+  exits : (m : Moved) → Says m → ent 𝓤 (⋆ 𝓤 H A (‵ (OwnCursor m) ∷ ‵ (OwnStep m) ∷ (‵ (flft κ q) ⊛ ‵ ftrue) ∷ ‵ (Own κ d) ∷ [])) (Post (made m))
   unfolding advanceOf
   exits m e =
       qed W (‵ (OwnCursor m) ∷ ‵ (OwnStep m) ∷ (‵ (flft κ q) ⊛ ‵ ftrue) ∷ ‵ (Own κ d) ∷ []) ∵
       suffices ! _ (ends-at 𝓤 H A self.ended stayed (self.clauses 𝓤 H A mem run) W (((κ, tt), (q, tt), tt, (d, tt), (mach ∷ [], tt)), tt) (made m) (gave m) (tt, tt) (tt, tt)) $
-      says ! (refl, (ap (λ (v : Moved). v .cursor) e, ap (λ (v : Moved). v .step) e)) $
+      says ! (refl, (ap (λ (v : Moved). v .cursor) (e .0), (ap (λ (v : Moved). v .step) (e .0), e .1))) $
       move ! (2 ∷ []) $ frame ! $ move ! (2 ∷ []) $ use1 W (‵ (Own κ d) ⊛ ‵ (Own κ d)) (twice 𝓤 H A W κ q d) $ split ! $
       nothing ! $ move ! (1 ∷ 0 ∷ []) $ fjoin ! $ frame ! $
       -- [what the struct owns; what the new cursor owns; what the step owns]
@@ -146,7 +150,7 @@ module _ {M : Type 1} (𝓤 : URA M) (H : Heap 𝓤) (A : Atoms 𝓤) (W : Given
         move ! (14 ∷ []) $ use1 W (raw (Advances 𝓤 H A mem run .pre to) ⊛ ‵ (Own κ d)) (apart 𝓤 H A W κ q d (Advances 𝓤 H A mem run .pre to) asked) $ split ! $
         calls-at ! fm (Advances 𝓤 H A mem run) known to (and-then ! (load ! (from ! (stop !)) (look ! 8 refl)) (and-then ! (load ! (from ! (stop !)) (look ! 6 refl)) (no-more !))) (λ u.
         use1 W (later (some (λ (m : Moved). ((‵ (flft κ q) ⊛ ‵ ftrue) ⊛ ‵ (N.the-row .own m (u ∷ []))) ⊛ raw (ensured 𝓤 H A callee.ended (callee.clauses 𝓤 H A mem run) (κ, tt) (d .text, (d .cursor, tt)) tt m)))) (id⊢ 𝓤 _) $ await ! tt $ pick ! (λ m.
-        split ! $ move ! (1 ∷ []) $ use1 W (raw (fact 𝓤 (m ≡ found))) (said m) $ heard ! (m ≡ found) (λ e. split ! $ move ! (1 ∷ []) $
+        split ! $ move ! (1 ∷ []) $ use1 W (raw (fact 𝓤 (Says m))) (said m) $ heard ! (Says m) (λ e. split ! $ move ! (1 ∷ []) $
         -- [what the result owns; the token; what the struct owns; room for _6; …; room for _5; …; _4; …; _3; …; room for _2; …; _1; …; room for _0; …]
         peeks ! N.the-row (Is N.the-row) (shows 𝓤 H A N.the-row) m (u ∷ []) (λ is.
         land ! (from ! (stop !)) (init ! 11 refl (LL.lawful N.the-type N′.the-laws 𝓤 H A W .typed m _ is .0)) $ rewrite ! 11 (λ (w : Val). ‵ (fat fullShare N′.mir l₂ 0 w)) (is-moved m u is) refl $

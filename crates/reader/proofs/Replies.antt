@@ -1,0 +1,62 @@
+-- What a step tells is the reply due at the cursor, test by test. Assumes nothing.
+use mathlib.Core.Path.{_≡_, refl, ap}
+use mathlib.Core.Bool.{Bool, true, false, not, cond}
+use mathlib.Core.List.{List, []}
+use Prim.Native.Nat.{ℕ}
+use native.Mathlib.Omega.{arith}
+use lib.Dec.{eqb, ltb, leb}
+use lib.ListN.{length, drop}
+use Rattle.arith.specs.Answers.{Reply}
+use Rattle.sheet.specs.Faults.{headFault, cellFault, sumFault}
+use Rattle.sheet.specs.Replies.{replyAfter}
+use Rattle.reader.specs.Bytes.{indexOf, before}
+use Rattle.reader.specs.Lines.{feed, lineOf}
+use Rattle.reader.specs.Steps.{headStep, cellStep, sumStep, admitted, pastLine, stepAt, nextOf, past, afterOf}
+use Rattle.reader.specs.Replies.{stepTold, lineTests, lineValues, replyAt, replyNext, Tells}
+use Rattle.reader.specs.declared.line.Line.{Line}
+use Rattle.reader.specs.declared.line.Line.the-variants as Line
+use Rattle.reader.specs.declared.cursor.Cursor.{Cursor}
+use Rattle.reader.specs.declared.cursor.Step.{Step}
+use Rattle.reader.specs.declared.cursor.Step.the-variants.{Head, Cell, Sum, End, Refused}
+
+-- ---- one test
+-- the step where it is passed, else the other one
+test-told : (t : Bool) (a b : Step) {due other : Reply ℕ} → stepTold a ≡ due → stepTold b ≡ other → stepTold (cond t a b) ≡ cond t due other
+test-told true a b e f = e
+test-told false a b e f = f
+
+-- the same, with the test's opposite
+not-told : (t : Bool) (a b : Step) {due other : Reply ℕ} → stepTold a ≡ other → stepTold b ≡ due → stepTold (cond t a b) ≡ cond (not t) due other
+not-told true a b e f = e
+not-told false a b e f = f
+
+-- ---- a line
+line-told : (l : Line) (n : ℕ) (c : Cursor) → stepTold (admitted l (c .line) (pastLine n c)) ≡ replyAfter (lineTests l c) (lineValues l)
+unfolding admitted headStep cellStep sumStep
+line-told (Line.Head w m) n c = test-told (eqb (headFault w m) 0) _ _ refl refl
+line-told (Line.Cell I) n c = test-told (eqb (cellFault (c .width) I) 0) _ _ (not-told (leb 64 (c .«cell_count»)) _ _ refl refl) refl
+line-told (Line.Sum t) n c = test-told (eqb (sumFault (c .«cell_count») t) 0) _ _ (not-told (leb 128 (c .«sum_count»)) _ _ refl refl) refl
+line-told Line.Malformed n c = refl
+
+-- ---- a text
+at-told : (ahead : List ℕ) (c : Cursor) → stepTold (stepAt ahead c) ≡ replyAt ahead c
+at-told ahead c =
+    test-told (ltb (indexOf feed ahead) (length ahead)) _ _
+    (line-told (lineOf (c .at) (c .width) (before feed ahead)) (indexOf feed ahead) c)
+    (test-told (eqb (length ahead) 0) _ _ (not-told (eqb (c .at) 0) _ _ refl refl) refl)
+
+pub next-told : (text : List ℕ) (c : Cursor) → stepTold (nextOf text c) ≡ replyNext text c
+unfolding nextOf replyNext
+next-told text c = test-told (ltb 8192 (length text)) _ _ refl (at-told (drop (c .at) text) c)
+
+-- a refused record and the end are stayed at
+past-stays : (s : Step) (c : Cursor) → stepTold s .values ≡ [] → past s c ≡ c
+past-stays (Head w m next) c e = absurd (let z : _≡_ {A = ℕ} 2 0 = ap length e in omega arith)
+past-stays (Cell I next) c e = absurd (let z : _≡_ {A = ℕ} 2 0 = ap length e in omega arith)
+past-stays (Sum t next) c e = absurd (let z : _≡_ {A = ℕ} 3 0 = ap length e in omega arith)
+past-stays End c e = refl
+past-stays (Refused r) c e = refl
+
+pub step-tells : (text : List ℕ) (c : Cursor) → Tells text c (nextOf text c) (afterOf text c)
+unfolding afterOf
+step-tells text c = record { told = next-told text c; stays = past-stays (nextOf text c) c }
