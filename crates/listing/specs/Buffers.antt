@@ -6,24 +6,25 @@ use mathlib.Core.List.{List, [], _∷_, _++_}
 use lib.Dec.{leb}
 use lib.ListN.{length, drop}
 use Rattle.arith.specs.Refusals.{refusal}
+use Rattle.arith.specs.Answers.{Reply, gives, refuses}
 use Rattle.arith.specs.declared.refusal.Refusal.{Refusal}
 use Rattle.sheet.specs.declared.narrowing.Run.{Run}
 use Rattle.sheet.specs.declared.passes.Outcome.{Outcome}
 use Rattle.sheet.specs.declared.passes.Outcome.the-variants as Outcome
+use Rattle.sheet.specs.Replies.{Test, replyAfter, testAt}
 use Rattle.listing.specs.Listings.{listingOf}
 use Rattle.listing.specs.declared.writer.Written.{Written}
 use Rattle.listing.specs.declared.writer.Written.the-variants.{Length, Refused}
 
 -- ---- answers
--- 01's number of each case: 0 where the listing was written
-abbrev pub writtenNumber : Written → ℕ
-writtenNumber (Length n) = 0
-writtenNumber (Refused r) = r .number
+-- what each case tells: the length in bytes, or the refusal
+abbrev pub writtenTold : Written → Reply ℕ
+writtenTold (Length n) = gives (n ∷ [])
+writtenTold (Refused r) = refuses r
 
--- 01's values of each case: the length in bytes; the place
-abbrev pub writtenValues : Written → List ℕ
-writtenValues (Length n) = n ∷ []
-writtenValues (Refused r) = r .place ∷ []
+-- the reply due: some tests, 13 last; then the length of the bytes
+abbrev pub lengthAfter : List Test → List ℕ → List ℕ → Reply ℕ
+lengthAfter tests bytes out = replyAfter (tests ++ testAt (leb (length bytes) (length out)) 13 0 ∷ []) (length bytes ∷ [])
 
 -- ---- bytes written at the start of a buffer
 -- their number, or refusal 13 where the buffer is too short
@@ -49,8 +50,9 @@ writtenBy run out = unlessRefused (run .outcome) Refused (sizeIn (listingOf run)
 unfoldable pub bufferBy : Run → List ℕ → List ℕ
 bufferBy run out = unlessRefused (run .outcome) (λ _. out) (storedIn (listingOf run) out)
 
--- ---- what a call promises: its answer, what the lent buffer holds afterwards, and that a refusal leaves the buffer as it was
-pub record Writes (answer : Written) (stored out : List ℕ) (r : Written) (after : List ℕ) : Type 0 where
+-- ---- what a call promises: its answer, the reply due, what the lent buffer holds afterwards, and that a refusal leaves the buffer as it was
+pub record Writes (answer : Written) (due : Reply ℕ) (stored out : List ℕ) (r : Written) (after : List ℕ) : Type 0 where
   pub answers : r ≡ answer
+  pub told : writtenTold r ≡ due
   pub holds : after ≡ stored
-  pub keeps : (writtenNumber r ≡ 0 → ⊥) → after ≡ out
+  pub keeps : (writtenTold r .number ≡ 0 → ⊥) → after ≡ out

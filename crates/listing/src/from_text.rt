@@ -1,7 +1,8 @@
 // From a sheet text to its listing.
 ghost use mathlib.Core.Path.{_≡_};
+ghost use mathlib.Core.List.{[]};
 ghost use Rattle.listing.specs.Listings.{runOf, listingOf};
-ghost use Rattle.listing.specs.Buffers.{sizeIn, storedIn, Writes};
+ghost use Rattle.listing.specs.Buffers.{lengthAfter, sizeIn, storedIn, Writes};
 use crate::writer::Written;
 use crate::writer::write_run;
 use reader::read::read;
@@ -28,7 +29,7 @@ fn run_text(text: &[u8]) -> Run
 
 // The listing of any text, its refusal included, into a lent buffer; only 13 is refused. Bytes after the listing stay as they were.
 pub fn list(text: &[u8], out: &mut [u8]) -> Written
-    ensures { λ r. ⌜ Writes (sizeIn (listingOf (runOf (now (text .entry)))) (now (out .entry))) (storedIn (listingOf (runOf (now (text .entry)))) (now (out .entry))) (now (out .entry)) r (now (out .exit)) ⌝ }
+    ensures { λ r. ⌜ Writes (sizeIn (listingOf (runOf (now (text .entry)))) (now (out .entry))) (lengthAfter [] (listingOf (runOf (now (text .entry)))) (now (out .entry))) (storedIn (listingOf (runOf (now (text .entry)))) (now (out .entry))) (now (out .entry)) r (now (out .exit)) ⌝ }
 {
     let run = run_text(text);
     write_run(run, out)

@@ -2,9 +2,10 @@
 ghost use mathlib.Core.Path.{_≡_};
 ghost use Prim.Native.Nat.{_≤_};
 ghost use lib.ListN.{length, take};
+ghost use Rattle.sheet.specs.Replies.{sheetTests};
 ghost use Rattle.sheet.specs.Narrowings.{narrowSheetOf};
 ghost use Rattle.listing.specs.Listings.{listingOf};
-ghost use Rattle.listing.specs.Buffers.{sizeIn, storedIn, writtenBy, bufferBy, Writes};
+ghost use Rattle.listing.specs.Buffers.{lengthAfter, sizeIn, storedIn, writtenBy, bufferBy, Writes};
 use crate::lines::put_lines;
 use crate::store::copy;
 use arith::refusal::Refusal;
@@ -46,7 +47,7 @@ pub(crate) fn write_run(run: Run, out: &mut [u8]) -> Written
 
 // Narrows a kept sheet and writes its listing; a sheet's refusals first, 13 last. Bytes after the listing stay as they were.
 pub fn write(sheet: Sheet, out: &mut [u8]) -> Written
-    ensures { λ r. ⌜ Writes (writtenBy (narrowSheetOf sheet) (now (out .entry))) (bufferBy (narrowSheetOf sheet) (now (out .entry))) (now (out .entry)) r (now (out .exit)) ⌝ }
+    ensures { λ r. ⌜ Writes (writtenBy (narrowSheetOf sheet) (now (out .entry))) (lengthAfter (sheetTests sheet) (listingOf (narrowSheetOf sheet)) (now (out .entry))) (bufferBy (narrowSheetOf sheet) (now (out .entry))) (now (out .entry)) r (now (out .exit)) ⌝ }
 {
     let run = narrow_sheet(sheet);
     let outcome = run.outcome;

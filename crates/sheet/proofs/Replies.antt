@@ -15,7 +15,7 @@ use Rattle.sheet.specs.declared.kept.Answer.the-variants.{Done, Refused}
 use Rattle.sheet.specs.declared.kept.Kept.{Kept}
 use Rattle.sheet.specs.Cells.{canonicalCell}
 use Rattle.sheet.specs.Faults.{cellFault, sumFault}
-use Rattle.sheet.specs.Sheets.{andThen, require, faultAt, keptBy, blank, openOf, firstFault, testLists, testOf, usedCells, usedSums, addTest, tidied, withCell, withSum, addCellOf, addSumOf}
+use Rattle.sheet.specs.Sheets.{andThen, keptBy, blank, openOf, firstFault, testLists, testOf, usedCells, usedSums, addTest, tidied, withCell, withSum, addCellOf, addSumOf}
 use Rattle.sheet.specs.Replies.{Test, replyAfter, testAt, faultless, allFaultless, openTests, listTests, sheetTests, addCellTests, addSumTests, keptTold, Keeps}
 
 -- ---- the answer of some tests

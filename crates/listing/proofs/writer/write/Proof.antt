@@ -9,7 +9,6 @@ use Rattle.sheet.specs.declared.passes.Outcome.{Outcome}
 use Rattle.sheet.specs.declared.passes.Outcome.the-variants.{Settled, NoTriple, Stopped, Refused}
 use Rattle.listing.specs.declared.writer.Written.the-variants as Written
 use mathlib.Core.Path.{_≡_, refl}
-use Rattle.sheet.specs.Narrowings.{narrowSheetOf}
 use Rattle.listing.proofs.Delivering.{run-written}
 use Rattle.listing.specs.Buffers.{unlessRefused, writtenBy, bufferBy}
 use native.Mathlib.Omega.{arith}
@@ -37,7 +36,7 @@ returns : tie.Need-returns
 unfolding writtenBy bufferBy
 returns c =
     let s = c .before .before .before .before .before .args in
-    run-written (narrowSheetOf (s .sheet)) (s .out .now) _ _ (rw (← c .before .before .before .narrow-sheet .ensures .answer, c .before .outcome .given .1)) (rw (← c .before .before .before .narrow-sheet .ensures .answer, c .before .outcome .given .1))
+    run-written (s .sheet) (s .out .now) _ _ (rw (← c .before .before .before .narrow-sheet .ensures .answer, c .before .outcome .given .1)) (rw (← c .before .before .before .narrow-sheet .ensures .answer, c .before .outcome .given .1))
 
 write-run-requires : tie.Need-write-run-requires
 write-run-requires c κs = tt
@@ -51,7 +50,7 @@ returns-2 c =
     let s = c .before .before .before .before .before .before .before .args in
     let o = c .before .before .before .before .before .narrow-sheet .result .outcome in
     let k = c .before .before .before .before .match .keys2 in
-    run-written (narrowSheetOf (s .sheet)) (s .out .now) _ _
+    run-written (s .sheet) (s .out .now) _ _
     (rw (← c .before .before .before .before .before .narrow-sheet .ensures .answer, not-refused o Written.Refused _ k) (c .before .before .write-run .ensures .0))
     (rw (← c .before .before .before .before .before .narrow-sheet .ensures .answer, not-refused o (λ _. s .out .now) _ k) (c .before .before .write-run .ensures .1))
 
