@@ -18,7 +18,7 @@ use Rattle.sheet.specs.declared.kept.Record.{Record}
 use Rattle.sheet.specs.Cells.{fractionOf, exponentOf, patternsOf, boxOf}
 use Rattle.sheet.specs.Sheets.{noCell}
 use Rattle.sheet.specs.Boxes.{Box, at, IsBox, Names}
-use Rattle.sheet.specs.Runs.{Step, unsolved, left, put, stepBy, step, sameBox}
+use Rattle.sheet.specs.Runs.{unsolved, left, put, stepBy, step, sameBox}
 use Rattle.sheet.specs.Steps.{places, boxIn, Shows, Compares}
 use Rattle.sheet.proofs.Boxes.{equal-same, unequal-same}
 use Rattle.sheet.proofs.Demand.{stays-box}

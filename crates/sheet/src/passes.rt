@@ -1,5 +1,4 @@
 // The run: passes around sums, from the cells first given until a pass moves no end.
-ghost use mathlib.Core.Path.{_≡_};
 ghost use Prim.Native.Nat.{_≤_};
 ghost use lib.ListN.{take};
 ghost use Rattle.sheet.specs.Steps.{Compares, Ready, EndsAs, endOf};

@@ -1,6 +1,5 @@
 -- `listing::from_text::run_text` meets its contract. Assumes nothing.
 use Rattle.listing.specs.Listings.{runOf}
-use borrow.Author.Needs.{needs}
 use Rattle.listing.proofs.from_text.run_text.Statement.{statement}
 use Rattle.listing.proofs.from_text.run_text.Tie as tie
 

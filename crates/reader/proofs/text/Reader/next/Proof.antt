@@ -47,7 +47,7 @@ use Rattle.reader.proofs.text.Reader as T
 use Rattle.reader.proofs.text.Reader.Laws as T′
 use Rattle.reader.proofs.text.Given as G
 use Rattle.reader.proofs.text.Given.Laws as G′
-use Rattle.reader.proofs.Held.{B, D, L, fields, textVal, passed, Own, twice, apart}
+use Rattle.reader.proofs.Held.{B, D, L, fields, passed, Own, twice, apart}
 use Rattle.reader.proofs.cursor.Cursor as K
 use Rattle.reader.proofs.cursor.Cursor.Laws as K′
 use Rattle.reader.proofs.cursor.Step as S
