@@ -1,91 +1,20 @@
-// From the least to the greatest x, a and b in a triple. The greatest is the mirror image of the least of the mirrored ranges.
+// From the least to the greatest b in a triple. The greatest is the mirror image of the least of the mirrored ranges.
 ghost use Prim.Native.Nat.{_≤_, _<_};
 ghost use Rattle.arith.specs.Formats.{Sound};
 ghost use Rattle.arith.specs.Intervals.{Ends};
-ghost use Rattle.arith.specs.Searches.{LeastOf, Spans, OutermostOf, HasX, HasB};
+ghost use Rattle.arith.specs.Searches.{LeastOf, Spans, HasB};
+use crate::corner::Corner;
+use crate::corner::search_corner;
+use crate::exact::distance_from_zero;
 use crate::format::Format;
 use crate::hardware::add_ordinals;
 use crate::operand::Found;
+use crate::operand::least_operand;
 use crate::range::Range;
 use crate::range::greater;
 use crate::range::less;
 use crate::range::mirror_of;
 use crate::range::reflect;
-use crate::solve::Pair;
-use crate::solve::least_x;
-
-// From the least to the greatest x in a triple, with an a that goes with each, or that there is no triple.
-pub(crate) enum Outermost {
-    At {
-        x: Range,
-        with_low: u64,
-        with_high: u64,
-    },
-    Absent,
-}
-
-// The x in a triple.
-pub(crate) fn extent_x(format: Format, x: Range, a: Range, b: Range) -> Outermost
-    requires { ⌜ (Sound format) × (Ends format x) × (Ends format a) × (Ends format b) ⌝ }
-    ensures { λ r. ⌜ OutermostOf format x a b r ⌝ }
-{
-    let Pair::At {
-        x: low,
-        a: with_low,
-    } = least_x(format, x, a, b)
-    else {
-        return Outermost::Absent;
-    };
-    let Pair::At { x: m, a: c } = least_x(
-        format,
-        reflect(format, x),
-        reflect(format, a),
-        reflect(format, b),
-    ) else {
-        return Outermost::Absent;
-    };
-    Outermost::At {
-        x: Range {
-            low,
-            high: mirror_of(format, m),
-        },
-        with_low,
-        with_high: mirror_of(format, c),
-    }
-}
-
-// The least a in a triple, where one that stands in a triple is known: a's low end, or found as x is, with the operands swapped.
-fn least_a(format: Format, x: Range, a: Range, b: Range, known: u64) -> u64
-    requires { ⌜ (Sound format) × (Ends format x) × (Ends format a) × (Ends format b) × (HasX format a x b known) ⌝ }
-    ensures { λ r. ⌜ LeastOf (HasX format a x b) (Found.At r) ⌝ }
-{
-    if known <= a.low {
-        return known;
-    }
-    match least_x(format, a, x, b) {
-        Pair::At { x: c, a: _ } => c,
-        Pair::Absent => known,
-    }
-}
-
-// The a in a triple, where p and q stand in one: p with x's low end, so it may be the greatest, and q with x's high end, so it may be the least.
-pub(crate) fn extent_a(format: Format, x: Range, a: Range, b: Range, p: u64, q: u64) -> Range
-    requires { ⌜ (Sound format) × (Ends format x) × (Ends format a) × (Ends format b) × (HasX format a x b p) × (HasX format a x b q) ⌝ }
-    ensures { λ r. ⌜ Spans (HasX format a x b) r ⌝ }
-{
-    let low = least_a(format, x, a, b, q);
-    let m = least_a(
-        format,
-        reflect(format, x),
-        reflect(format, a),
-        reflect(format, b),
-        mirror_of(format, p),
-    );
-    Range {
-        low,
-        high: mirror_of(format, m),
-    }
-}
 
 // Up to where to ask next, from low up to, and without, high: on the first turn at low alone where much is left; on the first two else for all; then for the lower half.
 fn question(low: u64, high: u64, first: bool, near: bool) -> u64
@@ -116,12 +45,34 @@ fn search_b(format: Format, x: Range, a: Range, b: Range) -> u64
         let middle = question(low, high, first, near);
         near = first;
         first = false;
-        match least_x(format, x, a, Range { low, high: middle }) {
-            Pair::At { x: p, a: q } => high = add_ordinals(format, p, q),
-            Pair::Absent => low = middle + 1,
+        match search_corner(format, x, a, Range { low, high: middle }) {
+            Corner::At { x: _, a: _, b: s } => high = s,
+            Corner::Absent => low = middle + 1,
         }
     }
     high
+}
+
+// A b that stands in a triple: the one known, or the least sum with x's low end that is not below b, if that is less.
+fn nearer(format: Format, x: Range, a: Range, b: Range, known: u64) -> u64
+    requires { ⌜ (Sound format) × (Ends format x) × (Ends format a) × (Ends format b) × (HasB format x a b known) ⌝ }
+    ensures { λ r. ⌜ HasB format x a b r ⌝ }
+{
+    match least_operand(format, x.low, b.low, a) {
+        Found::At(c) => less(known, add_ordinals(format, x.low, c)),
+        Found::Absent => known,
+    }
+}
+
+// The same with the operand held that is farther from zero: the other moves the sum in smaller steps.
+fn nearest(format: Format, x: Range, a: Range, b: Range, known: u64) -> u64
+    requires { ⌜ (Sound format) × (Ends format x) × (Ends format a) × (Ends format b) × (HasB format x a b known) ⌝ }
+    ensures { λ r. ⌜ HasB format x a b r ⌝ }
+{
+    if distance_from_zero(format, a.low) < distance_from_zero(format, x.low) {
+        return nearer(format, x, a, b, known);
+    }
+    nearer(format, a, x, b, known)
 }
 
 // The least b in a triple, where one that stands in a triple is known: the sum of the low ends, unless that is below b.
@@ -133,9 +84,12 @@ fn least_b(format: Format, x: Range, a: Range, b: Range, known: u64) -> u64
     if b.low <= least {
         return least;
     }
+    if known <= b.low {
+        return known;
+    }
     let capped = Range {
         low: b.low,
-        high: known,
+        high: nearest(format, x, a, b, known),
     };
     search_b(format, x, a, capped)
 }

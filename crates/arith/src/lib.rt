@@ -1,5 +1,6 @@
 // Arithmetic on binary floating-point patterns at both widths: the forward sum, intervals and the narrowing of one sum. All in integers, except that the narrowing adds by the machine's floats. Rests on the crate `ladder`.
 mod clamp;
+mod corner;
 mod entry;
 mod exact;
 mod extent;
@@ -13,7 +14,6 @@ mod pattern;
 mod range;
 pub mod refusal;
 mod rounding;
-mod solve;
 pub mod sum;
 mod threshold;
 mod words;

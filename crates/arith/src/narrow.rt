@@ -1,19 +1,18 @@
 // The narrowing of one sum: for x, a and b the least and greatest value standing in a triple.
 ghost use mathlib.Core.Path.{_≡_};
+ghost use Prim.Native.Nat.{_≤_};
 ghost use Rattle.arith.specs.Formats.{Sound};
 ghost use Rattle.arith.specs.Intervals.{Ends};
 ghost use Rattle.arith.specs.Searches.{narrowingIn, narrowing};
 ghost use Rattle.arith.specs.Narrows.{narrowAnswer, narrowOrdered, narrowIn, narrowOf};
 ghost use Rattle.arith.specs.Answers.{narrowedTold};
 ghost use Rattle.arith.specs.Replies.{replyAfter, narrowTests, narrowValues};
-use crate::extent::Outermost;
-use crate::extent::extent_a;
+use crate::corner::Corner;
+use crate::corner::corner_of;
 use crate::extent::extent_b;
-use crate::extent::extent_x;
 use crate::format::Format;
 use crate::format::format_of;
 use crate::format::known;
-use crate::hardware::add_ordinals;
 use crate::interval::Interval;
 use crate::interval::ends_finite;
 use crate::interval::interval_of;
@@ -39,33 +38,45 @@ pub(crate) enum Ranges {
     Ends { x: Range, a: Range, b: Range },
 }
 
-// The narrowing of ranges. The a that go with x's ends, and their sums, are where the search for the ends of a and of b starts; b's is over what x and a are narrowed to.
+// The narrowing of ranges: two corners are that of x and a, and b's is over what these are narrowed to.
 fn narrow_ranges(format: Format, x: Range, a: Range, b: Range) -> Ranges
-    requires { ⌜ (Sound format) × (Ends format x) × (Ends format a) × (Ends format b) ⌝ }
+    requires { ⌜ (Sound format) × (Ends format x) × (Ends format a) × (Ends format b) × (x .low ≤ x .high) × (a .low ≤ a .high) × (b .low ≤ b .high) ⌝ }
     ensures { λ r. ⌜ narrowingIn r ≡ narrowing format x a b ⌝ }
 {
-    let Outermost::At {
-        x: xs,
-        with_low: p,
-        with_high: q,
-    } = extent_x(format, x, a, b)
+    let Corner::At {
+        x: x_low,
+        a: a_high,
+        b: s,
+    } = corner_of(format, x, a, b)
     else {
         return Ranges::None;
     };
-    let ys = extent_a(format, x, a, b, p, q);
-    let s = add_ordinals(format, xs.low, p);
-    let t = add_ordinals(format, xs.high, q);
-    let bs = extent_b(format, xs, ys, b, s, t);
+    let Corner::At {
+        x: a_low,
+        a: x_high,
+        b: t,
+    } = corner_of(format, a, x, b)
+    else {
+        return Ranges::None;
+    };
+    let xs = Range {
+        low: x_low,
+        high: x_high,
+    };
+    let ys = Range {
+        low: a_low,
+        high: a_high,
+    };
     Ranges::Ends {
         x: xs,
         a: ys,
-        b: bs,
+        b: extent_b(format, xs, ys, b, s, t),
     }
 }
 
 // The answer for three ranges.
 fn narrow_finite(format: Format, x: Range, a: Range, b: Range) -> Narrowed
-    requires { ⌜ (Sound format) × (Ends format x) × (Ends format a) × (Ends format b) ⌝ }
+    requires { ⌜ (Sound format) × (Ends format x) × (Ends format a) × (Ends format b) × (x .low ≤ x .high) × (a .low ≤ a .high) × (b .low ≤ b .high) ⌝ }
     ensures { λ r. ⌜ r ≡ narrowAnswer format (narrowing format x a b) ⌝ }
 {
     match narrow_ranges(format, x, a, b) {

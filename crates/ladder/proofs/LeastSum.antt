@@ -1,19 +1,16 @@
--- The least b in a triple by way of the least x: a b that stands in a triple bounds it from above, and what lies below is asked for, until nothing lies there. Assumes nothing.
-use mathlib.Core.Path.{_≡_, sym}
+-- The least b in a triple by way of the corner: a b that stands in a triple bounds it from above, and what lies below is asked for, until nothing lies there. Assumes nothing.
+use mathlib.Core.Path.{_≡_, sym, subst}
 use mathlib.Core.Logic.{inl, inr}
-use Prim.Native.Nat.{ℕ, _+_, _≤_, _<_}
+use Prim.Native.Nat.{ℕ, _+_, _≤_, _<_, min}
 use native.Mathlib.Nat.{le-refl}
 use native.Mathlib.Omega.{arith}
 use Rattle.ladder.specs.Sum.{sum}
-use Rattle.ladder.specs.Solution.{Interval}
+use Rattle.ladder.specs.Solution.{Interval, In}
 use Rattle.ladder.specs.Narrowing.{HasX, HasB}
-use Rattle.ladder.specs.Search.{Never, Least, Bracket, Leading}
+use Rattle.ladder.specs.Search.{Never, Least, Bracket}
 use Rattle.ladder.proofs.Cases.{le-or-lt}
 use Rattle.ladder.proofs.Sum.{sum-mono}
 use Rattle.ladder.proofs.Extremes.{bracket-lower, bracket-raise}
-
-pub leading-least : {f e : ℕ} {X A B : Interval} {x a : ℕ} → Leading f e X A B x a → Least (HasX f e X A B) x
-leading-least {f} {e} {X} {A} {B} {x} {a} l = record { holds = record { a = a; b = sum f e x a; solution = l .solution }; least = l .least }
 
 -- ---- closing in from a b that stands in a triple
 module _ (f e : ℕ) (X A B : Interval) where
@@ -23,16 +20,27 @@ module _ (f e : ℕ) (X A B : Interval) where
 
   module _ (l h m : ℕ) (k : Bracket (HasB f e X A B) l h) where
     -- a triple from l up to m has a smaller sum
-    pub sums-lower : (x a s : ℕ) → B .low ≤ l → m < h → Leading f e X A (record { low = l; high = m }) x a → s ≡ sum f e x a → Bracket (HasB f e X A B) l s × (s < h)
-    sums-lower x a s g j n p =
-        let r = n .solution in
+    pub sums-lower : (s : ℕ) → B .low ≤ l → m < h → HasB f e X A (record { low = l; high = m }) s → Bracket (HasB f e X A B) l s × (s < h)
+    sums-lower s g j w =
+        let r = w .solution in
         let i = r .b-in in
         let u = k .holds .solution .b-in in
-        (bracket-lower k (record { x = x; a = a; solution = record { x-in = r .x-in; a-in = r .a-in; b-in = record { low = omega arith; high = omega arith }; is = sym p } }), omega arith)
+        (bracket-lower k (record { x = w .x; a = w .a; solution = record { x-in = r .x-in; a-in = r .a-in; b-in = record { low = omega arith; high = omega arith }; is = r .is } }), omega arith)
 
     -- there is none
     pub sums-raise : Never (HasX f e X A (record { low = l; high = m })) → Bracket (HasB f e X A B) (m + 1) h
     sums-raise n = bracket-raise m k (λ y w i j. let r = w .solution in n (w .x) (record { a = w .a; b = y; solution = record { x-in = r .x-in; a-in = r .a-in; b-in = record { low = i; high = j }; is = r .is } }))
+
+  -- t stands in a triple, and so does the least sum with X's low end that is not below B, where that is no more than t
+  pub sums-nearer : (t c : ℕ) → HasB f e X A B t → In A c → B .low ≤ sum f e (X .low) c → HasB f e X A B (min t (sum f e (X .low) c))
+  sums-nearer t c w i l =
+      let s = sum f e (X .low) c in
+      let r = w .solution in
+      let j = r .x-in in
+      elim (le-or-lt s t) [
+        | inl n ↦ let at : s ≡ min t s = omega arith in record { x = X .low; a = c; solution = record { x-in = record { low = le-refl (X .low); high = omega arith }; a-in = i; b-in = record { low = omega arith; high = omega (arith, r .b-in .high) }; is = at } }
+        | inr n ↦ let at : t ≡ min t s = omega arith in subst (HasB f e X A B) at w
+      ]
 
   -- up to t, which stands in a triple; the least of those is the least of all
   pub capped-holds : (t : ℕ) → HasB f e X A B t → HasB f e X A (record { low = B .low; high = t }) t

@@ -24,5 +24,6 @@ pub mod Frontier
 pub mod Granularity
 pub mod Clamp
 pub mod LeastSum
-pub mod Partners
+pub mod Operand
+pub mod Corners
 pub mod Assembly

@@ -6,7 +6,7 @@ use Rattle.ladder.specs.Ordinal.{sign, mirrored, Finite}
 use Rattle.ladder.specs.Sum.{sum}
 use Rattle.ladder.specs.Solution.{Interval, In, Solution}
 use Rattle.ladder.specs.Narrowing.{HasX, HasA, HasB, Spans}
-use Rattle.ladder.specs.Search.{Never, Least, Greatest, Leading, Bounded, reflection}
+use Rattle.ladder.specs.Search.{Never, Least, Greatest, Corner, Bounded, reflection}
 use Rattle.ladder.proofs.Ordinals.{infinity-lt-sign}
 use Rattle.ladder.proofs.Sum.{sum-comm, sum-mirror}
 use Rattle.ladder.proofs.Extremes.{mirror-never, mirror-greatest}
@@ -16,11 +16,17 @@ pub swap : {f e : ℕ} {X A B : Interval} {x a b : ℕ} → Solution f e X A B x
 swap {f} {e} {X} {A} {B} {x} {a} {b} s = record { x-in = s .a-in; a-in = s .x-in; b-in = s .b-in; is = sum-comm f e a x ∙ s .is }
 
 module _ (f e : ℕ) (X A B : Interval) where
-  swap-x : (y : ℕ) → HasX f e A X B y → HasA f e X A B y
+  pub swap-x : (y : ℕ) → HasX f e A X B y → HasA f e X A B y
   swap-x y w = record { x = w .a; b = w .b; solution = swap (w .solution) }
 
   swap-a : (y : ℕ) → HasA f e X A B y → HasX f e A X B y
   swap-a y w = record { a = w .x; b = w .b; solution = swap (w .solution) }
+
+  pub swap-b : (y : ℕ) → HasB f e X A B y → HasB f e A X B y
+  swap-b y w = record { x = w .a; a = w .x; solution = swap (w .solution) }
+
+  pub swap-never : Never (HasX f e A X B) → Never (HasX f e X A B)
+  swap-never n y w = n (w .a) (record { a = y; b = w .b; solution = swap (w .solution) })
 
   pub swap-spans : (I : Interval) → Spans (HasX f e A X B) I → Spans (HasA f e X A B) I
   swap-spans I s = record { low = swap-x (I .low) (s .low); high = swap-x (I .high) (s .high); all = λ y w. s .all y (swap-a y w) }
@@ -39,12 +45,14 @@ module _ (f e : ℕ) (X A B X' A' B' : Interval) (k : Kept f e X A B X' A' B') w
   pub kept-b : (y : ℕ) → HasB f e X A B y → HasB f e X' A' B' y
   kept-b y w = record { x = w .x; a = w .a; solution = k (w .x) (w .a) y (w .solution) }
 
-  -- the answer for smaller intervals that lose no triple
-  pub kept-leading : Kept f e X' A' B' X A B → (x a : ℕ) → Leading f e X' A' B' x a → Leading f e X A B x a
-  kept-leading j x a l = record { solution = j x a (sum f e x a) (l .solution); least = λ y w. l .least y (kept-x y w) }
+  -- the corner of smaller intervals that lose no triple
+  pub kept-corner : Kept f e X' A' B' X A B → (x a b : ℕ) → Corner f e X' A' B' x a b → Corner f e X A B x a b
+  kept-corner j x a b l =
+      let s = j x a b (l .solution) in
+      record { frontier = record { x-in = s .x-in; a-in = s .a-in; least = λ y w. l .frontier .least y (kept-x y w); most = λ y w. l .frontier .most y (kept-a y w) }; solution = s }
 
 -- ---- mirrored
-mirror-finite : (f e r : ℕ) → Finite f e r → Finite f e (mirrored f e r)
+pub mirror-finite : (f e r : ℕ) → Finite f e r → Finite f e (mirrored f e r)
 mirror-finite f e r n = let c = infinity-lt-sign f e in record { low = omega arith; high = omega arith }
 
 pub mirror-bounded : (f e : ℕ) (I : Interval) → Bounded f e I → Bounded f e (reflection f e I)
@@ -56,10 +64,10 @@ finite-in f e I n y i = record { low = omega arith; high = omega arith }
 pub finite-twice : (f e r : ℕ) → Finite f e r → r ≤ 2 * sign f e
 finite-twice f e r n = omega (arith, infinity-lt-sign f e)
 
-in-reflection : (f e : ℕ) (I : Interval) (y : ℕ) → In I y → In (reflection f e I) (mirrored f e y)
+pub in-reflection : (f e : ℕ) (I : Interval) (y : ℕ) → In I y → In (reflection f e I) (mirrored f e y)
 in-reflection f e I y i = record { low = omega arith; high = omega arith }
 
-in-reflected : (f e : ℕ) (I : Interval) → Bounded f e I → (y : ℕ) → In (reflection f e I) y → In I (mirrored f e y)
+pub in-reflected : (f e : ℕ) (I : Interval) → Bounded f e I → (y : ℕ) → In (reflection f e I) y → In I (mirrored f e y)
 in-reflected f e I n y i = let l = finite-twice f e (I .low) (n .low) in let h = finite-twice f e (I .high) (n .high) in record { low = omega arith; high = omega arith }
 
 module _ (f e : ℕ) (some : 1 ≤ f) (X A B : Interval) (nx : Bounded f e X) (na : Bounded f e A) (nb : Bounded f e B) where
@@ -91,12 +99,6 @@ module _ (f e : ℕ) (some : 1 ≤ f) (X A B : Interval) (nx : Bounded f e X) (n
         is = sum-mirror f e some x a (finite-twice f e x fx) (finite-twice f e a fa) ∙ ap (mirrored f e) (s .is);
       }
 
-  pub mirror-x : (y : ℕ) → HasX f e X A B y → HasX f e X' A' B' (mirrored f e y)
-  mirror-x y w = record { a = mirrored f e (w .a); b = mirrored f e (w .b); solution = mirror-solution y (w .a) (w .b) (w .solution) }
-
-  mirrored-x : (y : ℕ) → HasX f e X' A' B' y → HasX f e X A B (mirrored f e y)
-  mirrored-x y w = record { a = mirrored f e (w .a); b = mirrored f e (w .b); solution = mirrored-solution y (w .a) (w .b) (w .solution) }
-
   pub mirror-b : (y : ℕ) → HasB f e X A B y → HasB f e X' A' B' (mirrored f e y)
   mirror-b y w = record { x = mirrored f e (w .x); a = mirrored f e (w .a); solution = mirror-solution (w .x) (w .a) y (w .solution) }
 
@@ -104,11 +106,5 @@ module _ (f e : ℕ) (some : 1 ≤ f) (X A B : Interval) (nx : Bounded f e X) (n
   mirrored-b y w = record { x = mirrored f e (w .x); a = mirrored f e (w .a); solution = mirrored-solution (w .x) (w .a) y (w .solution) }
 
   -- the greatest is the mirror image of the least
-  pub mirror-x-never : Never (HasX f e X' A' B') → Never (HasX f e X A B)
-  mirror-x-never = mirror-never (2 * sign f e) (HasX f e X A B) (HasX f e X' A' B') mirror-x
-
-  pub mirror-x-greatest : (y : ℕ) → Least (HasX f e X' A' B') y → Greatest (HasX f e X A B) (mirrored f e y)
-  mirror-x-greatest = mirror-greatest (2 * sign f e) (HasX f e X A B) (HasX f e X' A' B') mirror-x mirrored-x (λ z w. finite-twice f e z (finite-in f e X nx z (w .solution .x-in)))
-
   pub mirror-b-greatest : (y : ℕ) → Least (HasB f e X' A' B') y → Greatest (HasB f e X A B) (mirrored f e y)
   mirror-b-greatest = mirror-greatest (2 * sign f e) (HasB f e X A B) (HasB f e X' A' B') mirror-b mirrored-b (λ z w. finite-twice f e z (finite-in f e B nb z (w .solution .b-in)))

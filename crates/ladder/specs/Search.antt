@@ -1,4 +1,4 @@
--- What the search for the ends of a narrowing finds on its way, each by what holds of it: the least number with a property, the least operand with a sum of at least b, the least x in a triple.
+-- What the search for the ends of a narrowing finds on its way, each by what holds of it: the least number with a property, the least operand with a sum of at least b, the corner at which the least x and the greatest a stand in a triple.
 -- Also the two images of an interval that the search uses: its mirror, and the interval without what is too coarse. Assumes nothing.
 use mathlib.Core.Logic.{_↔_}
 use Prim.Native.Nat.{ℕ, _+_, _-_, _*_, _^_, _≤_, _∣_, max}
@@ -6,7 +6,7 @@ use Rattle.ladder.specs.Magnitude.{magnitude}
 use Rattle.ladder.specs.Ordinal.{sign, mirrored, Finite, above, below}
 use Rattle.ladder.specs.Sum.{sum}
 use Rattle.ladder.specs.Solution.{Interval, In, Solution}
-use Rattle.ladder.specs.Narrowing.{HasX, Spans}
+use Rattle.ladder.specs.Narrowing.{HasX, HasA}
 
 -- ---- the numbers with a property
 -- there are none
@@ -28,10 +28,16 @@ pub record Bracket (P : ℕ → Type 0) (l h : ℕ) : Type 0 where
   pub holds : P h
   pub below : (y : ℕ) → P y → l ≤ y
 
--- ---- one operand: y inside I has a sum with a of at least b
+-- ---- one operand
+-- y inside I has a sum with a of at least b
 pub record Attains (f e a b : ℕ) (I : Interval) (y : ℕ) : Type 0 where
   pub inside : In I y
   pub enough : b ≤ sum f e y a
+
+-- y inside I has a sum with a of at most b
+pub record Stays (f e a b : ℕ) (I : Interval) (y : ℕ) : Type 0 where
+  pub inside : In I y
+  pub no-more : sum f e y a ≤ b
 
 -- twice the midpoint of b and its lower neighbour, less twice a, which twice an operand must reach: so many units above zero
 abbrev pub crossingUp : ℕ → ℕ → ℕ → ℕ → ℕ
@@ -45,28 +51,18 @@ crossingDown f e a b = below f e (b - 1) + below f e b + 2 * above f e a
 abbrev pub Threshold : ℕ → ℕ → ℕ → ℕ → ℕ → Type 0
 Threshold f e a b x = (y : ℕ) → (b ≤ sum f e y a) ↔ (x ≤ y)
 
--- a inside A has a sum with x inside B
-pub record Partner (f e : ℕ) (A B : Interval) (x a : ℕ) : Type 0 where
-  pub inside : In A a
-  pub sum-in : In B (sum f e x a)
-
--- ---- the least x in a triple
--- none is below x, and some a up to A's high end would make the sum large enough
-pub record Frontier (f e : ℕ) (X A B : Interval) (x : ℕ) : Type 0 where
-  pub inside : In X x
-  pub enough : B .low ≤ sum f e x (A .high)
-  pub below : (y : ℕ) → HasX f e X A B y → x ≤ y
-
--- it is x, with a
-pub record Leading (f e : ℕ) (X A B : Interval) (x a : ℕ) : Type 0 where
-  pub solution : Solution f e X A B x a (sum f e x a)
+-- ---- the triples' corner
+-- no triple has an x below x or an a above a
+pub record Frontier (f e : ℕ) (X A B : Interval) (x a : ℕ) : Type 0 where
+  pub x-in : In X x
+  pub a-in : In A a
   pub least : (y : ℕ) → HasX f e X A B y → x ≤ y
+  pub most : (y : ℕ) → HasA f e X A B y → y ≤ a
 
--- R runs from the least x to the greatest, and they go with p and q
-pub record Outermost (f e : ℕ) (X A B R : Interval) (p q : ℕ) : Type 0 where
-  pub spans : Spans (HasX f e X A B) R
-  pub low : Partner f e A B (R .low) p
-  pub high : Partner f e A B (R .high) q
+-- and x with a makes one: the least x and the greatest a stand in a triple together
+pub record Corner (f e : ℕ) (X A B : Interval) (x a b : ℕ) : Type 0 where
+  pub frontier : Frontier f e X A B x a
+  pub solution : Solution f e X A B x a b
 
 -- ---- images of an interval
 -- both ends are finite

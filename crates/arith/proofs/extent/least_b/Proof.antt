@@ -18,17 +18,27 @@ returns c =
     let t = c .before .before .add-ordinals in
     corner-least (F .fraction) (F .exponent) (z .pre .0 .some) (span (z .args .x)) (span (z .args .a)) (span (z .args .b)) (t .result) (t .ensures) (z .args .known) (z .pre .4) (omega arith)
 
+returns-2 : tie.Need-returns-2
+returns-2 c = search needs
+
+nearest-requires : tie.Need-nearest-requires
+nearest-requires c κs = search needs
+
 search-b-requires : tie.Need-search-b-requires
 search-b-requires c κs =
-    let z = c .before .before .before in
+    let z = c .before .before .before .before .before .before in
     let F = z .args .format in
-    (z .pre .0, z .pre .1, z .pre .2, record { low = z .pre .3 .low; high = finite-in (F .fraction) (F .exponent) (span (z .args .b)) (bounded (z .pre .3)) _ (z .pre .4 .solution .b-in) }, capped-holds (F .fraction) (F .exponent) (span (z .args .x)) (span (z .args .a)) (span (z .args .b)) _ (z .pre .4))
+    let w = c .nearest .ensures in
+    (z .pre .0, z .pre .1, z .pre .2, record { low = z .pre .3 .low; high = finite-in (F .fraction) (F .exponent) (span (z .args .b)) (bounded (z .pre .3)) _ (w .solution .b-in) }, capped-holds (F .fraction) (F .exponent) (span (z .args .x)) (span (z .args .a)) (span (z .args .b)) _ w)
 
-returns-2 : tie.Need-returns-2
-returns-2 c =
-    let z = c .before .before .before .before in
+returns-3 : tie.Need-returns-3
+returns-3 c =
+    let z = c .before .before .before .before .before .before .before in
     let F = z .args .format in
-    capped-least (F .fraction) (F .exponent) (span (z .args .x)) (span (z .args .a)) (span (z .args .b)) (z .args .known) _ (z .pre .4 .solution .b-in .high) (c .search-b .ensures)
+    let t = c .before .nearest in
+    capped-least (F .fraction) (F .exponent) (span (z .args .x)) (span (z .args .a)) (span (z .args .b)) (t .result) _ (t .ensures .solution .b-in .high) (c .search-b .ensures)
 
 pub least-b-spec : {M : Type 1} → statement M
-least-b-spec = tie.close (tie.spec add-ordinals-requires returns search-b-requires returns-2)
+least-b-spec =
+    tie.close
+    (tie.spec add-ordinals-requires returns returns-2 nearest-requires search-b-requires returns-3)

@@ -5,11 +5,9 @@ use native.Mathlib.Omega.{arith}
 use borrow.Author.Needs.{needs}
 use Rattle.ladder.specs.Search.{Bracket}
 use Rattle.ladder.proofs.Extremes.{bracket-order, bracket-least}
-use Rattle.ladder.proofs.Solutions.{finite-in}
 use Rattle.ladder.proofs.LeastSum.{sums-start, sums-lower, sums-raise}
-use Rattle.arith.specs.declared.solve.Pair.the-variants as Pair
-use Rattle.arith.specs.Searches.{span, LeadingOf, HasB}
-use Rattle.arith.proofs.Bounds.{bounded}
+use Rattle.arith.specs.declared.corner.Corner.the-variants as Corner
+use Rattle.arith.specs.Searches.{span, CornerOf, HasB}
 use Rattle.arith.proofs.extent.search_b.Statement.{statement}
 use Rattle.arith.proofs.extent.search_b.Tie as tie
 
@@ -19,17 +17,16 @@ Inv-loop format x a low₀ high₀ first₀ near₀ low high first near = (low�
 abbrev μ-loop : tie.MeasureT-loop
 μ-loop format x a low₀ high₀ first₀ near₀ low high first near = high - low
 
--- the triple of a turn
-found : (c : tie.After-known-told Inv-loop μ-loop) → let z = c .before .before .before .before .before .before .before .args in LeadingOf (z .format) (z .x) (z .a) (record { low = c .before .before .before .before .before .before .loop .low; high = c .before .before .before .before .question .result }) (Pair.At (c .before .p .given .0 .0) (c .before .p .given .0 .1 .0))
-found c = rw (c .before .p .given .1) at (c .before .before .before .least-x .ensures)
-
 -- a turn that finds a triple
-lowered : (c : tie.After-add-ordinals Inv-loop μ-loop) → let z = c .before .before .before .before .before .before .before .before .args in let v = c .before .before .before .before .before .before .before .loop in Bracket (HasB (z .format) (z .x) (z .a) (z .b)) (v .low) (c .add-ordinals .result) × (c .add-ordinals .result < v .high)
+lowered : (c : tie.After-known-told Inv-loop μ-loop) → let z = c .before .before .before .before .before .before .before .args in let v = c .before .before .before .before .before .before .loop in let s = c .before .s .given .0 .1 .1 .0 in Bracket (HasB (z .format) (z .x) (z .a) (z .b)) (v .low) s × (s < v .high)
 lowered c =
-    let z = c .before .before .before .before .before .before .before .before in
+    let z = c .before .before .before .before .before .before .before in
     let F = z .args .format in
-    let v = c .before .before .before .before .before .before .before .loop in
-    sums-lower (F .fraction) (F .exponent) (span (z .args .x)) (span (z .args .a)) (span (z .args .b)) (v .low) (v .high) (c .before .before .before .before .before .question .result) (v .inv .1) _ _ (c .add-ordinals .result) (v .inv .0) (c .before .before .before .before .before .question .ensures .1) (found (c .before)) (c .add-ordinals .ensures)
+    let v = c .before .before .before .before .before .before .loop in
+    let q = c .before .before .before .before .question in
+    let g = c .before .s .given in
+    let l : CornerOf F (z .args .x) (z .args .a) (record { low = v .low; high = q .result }) (Corner.At (g .0 .0) (g .0 .1 .0) (g .0 .1 .1 .0)) = rw (g .1) at (c .before .before .before .search-corner .ensures) in
+    sums-lower (F .fraction) (F .exponent) (span (z .args .x)) (span (z .args .a)) (span (z .args .b)) (v .low) (v .high) (q .result) (v .inv .1) _ (v .inv .0) (q .ensures .1) (record { x = g .0 .0; a = g .0 .1 .0; solution = l .solution })
 
 loop-holds : tie.Need-loop-holds Inv-loop μ-loop
 loop-holds c = let F = c .args .format in (le-refl _, sums-start (F .fraction) (F .exponent) (span (c .args .x)) (span (c .args .a)) (span (c .args .b)) _ (c .pre .4))
@@ -37,29 +34,22 @@ loop-holds c = let F = c .args .format in (le-refl _, sums-start (F .fraction) (
 question-requires : tie.Need-question-requires Inv-loop μ-loop
 question-requires c κs = omega arith
 
-least-x-requires : tie.Need-least-x-requires Inv-loop μ-loop
-least-x-requires c κs =
+search-corner-requires : tie.Need-search-corner-requires Inv-loop μ-loop
+search-corner-requires c κs =
     let z = c .before .before .before in
     let m = c .question .ensures in
     let i = c .before .before .loop .inv in
     let h = i .1 .holds .solution .b-in in
-    (z .pre .0, z .pre .1, z .pre .2, record { low = record { low = omega arith; high = omega arith }; high = record { low = omega arith; high = omega arith } })
+    (z .pre .0, z .pre .1, z .pre .2, record { low = record { low = omega arith; high = omega arith }; high = record { low = omega arith; high = omega arith } }, m .0)
 
-enum-known-p : tie.Need-enum-known-p Inv-loop μ-loop
-enum-known-p c = search needs
-
-add-ordinals-requires : tie.Need-add-ordinals-requires Inv-loop μ-loop
-add-ordinals-requires c κs =
-    let z = c .before .before .before .before .before .before .before in
-    let F = z .args .format in
-    let l = found c in
-    (z .pre .0, finite-in (F .fraction) (F .exponent) (span (z .args .x)) (bounded (z .pre .1)) _ (l .solution .x-in), finite-in (F .fraction) (F .exponent) (span (z .args .a)) (bounded (z .pre .2)) _ (l .solution .a-in))
+enum-known-s : tie.Need-enum-known-s Inv-loop μ-loop
+enum-known-s c = search needs
 
 loop-less : tie.Need-loop-less Inv-loop μ-loop
 loop-less c = let b = lowered c in omega (arith, b .1, bracket-order (b .0))
 
 loop-again : tie.Need-loop-again Inv-loop μ-loop
-loop-again c = (c .before .before .before .before .before .before .before .loop .inv .0, lowered c .0)
+loop-again c = (c .before .before .before .before .before .before .loop .inv .0, lowered c .0)
 
 enum-told : tie.Need-enum-told Inv-loop μ-loop
 enum-told c = search needs
@@ -76,7 +66,7 @@ loop-again-2 c =
     let F = z .args .format in
     let v = c .before .before .before .before .before .loop in
     let m = c .before .before .before .question .ensures in
-    let n : LeadingOf F (z .args .x) (z .args .a) (record { low = v .low; high = c .before .before .before .question .result }) Pair.Absent = rw (c .enum-told .given .1) at (c .before .before .least-x .ensures) in
+    let n : CornerOf F (z .args .x) (z .args .a) (record { low = v .low; high = c .before .before .before .question .result }) Corner.Absent = rw (c .enum-told .given .1) at (c .before .before .search-corner .ensures) in
     (omega (arith, v .inv .0), sums-raise (F .fraction) (F .exponent) (span (z .args .x)) (span (z .args .a)) (span (z .args .b)) (v .low) (v .high) _ (v .inv .1) n)
 
 returns : tie.Need-returns Inv-loop μ-loop
@@ -90,9 +80,8 @@ search-b-spec =
     μ-loop
     loop-holds
     question-requires
-    least-x-requires
-    enum-known-p
-    add-ordinals-requires
+    search-corner-requires
+    enum-known-s
     loop-less
     loop-again
     enum-told

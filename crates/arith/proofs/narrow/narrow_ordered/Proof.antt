@@ -1,6 +1,7 @@
 -- `arith::narrow::narrow_ordered` meets its contract: refusal 3 for x, a, b, then the answer. Assumes nothing.
-use borrow.Author.Needs.{needs}
+use borrow.Author.Tests.{leb-true}
 use Rattle.arith.specs.declared.narrow.Narrowed.the-variants.{Refused}
+use Rattle.arith.specs.Intervals.{isOrdered}
 use Rattle.arith.specs.Narrows.{narrowOrdered}
 use Rattle.arith.proofs.Refusing.{refused, passed, holds, fails}
 use Rattle.arith.proofs.narrow.narrow_ordered.Statement.{statement}
@@ -49,7 +50,14 @@ returns-3 c =
     (refused Refused 3 _ _ (c .refuse3 .ensures) (fails (t .before .ordered3 .ensures) (t .if3 .taken))))
 
 narrow-finite-requires : tie.Need-narrow-finite-requires
-narrow-finite-requires c κs = search needs
+unfolding isOrdered
+narrow-finite-requires c κs =
+    let s2 = c .before .before in
+    let s1 = s2 .before .before in
+    let z = s1 .before .before in
+    let x = leb-true _ _ (holds (s1 .before .ordered .ensures) (s1 .if1 .left)) in
+    let a = leb-true _ _ (holds (s2 .before .ordered2 .ensures) (s2 .if2 .left)) in
+    (z .pre .0, z .pre .1, z .pre .2, z .pre .3, x, a, leb-true _ _ (holds (c .before .ordered3 .ensures) (c .if3 .left)))
 
 returns-4 : tie.Need-returns-4
 unfolding narrowOrdered
