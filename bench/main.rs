@@ -1,6 +1,6 @@
 //! Nanoseconds for the library's forward sum and narrowing and for a pass over a sheet, beside unverified baselines in the
-//! same run; for a pass also beside its narrowings by the library. Then how the cost grows: of a narrowing with the length of
-//! its intervals, of a run with its sums and passes.
+//! same run; for a pass also beside its narrowings by the library; for a narrowing also what part of the baseline is no
+//! search. Then how the cost grows: of a narrowing with the length of its intervals, of a run with its sums and passes.
 //!
 //! Usage: bench PROGRAM, the program `narrow`. Both sides get the same input and must give the same answers. Each figure is the
 //! best of several rounds in which the sides take turns; the result buffers are not cleared between calls.
@@ -93,9 +93,13 @@ pub fn report(what: &str, library: f64, baseline: f64) {
     report_beside(what, library, "baseline", baseline);
 }
 
-fn narrowing<W: Width>(mix: &str, make: impl Fn(&mut Words) -> [Range; 3]) {
+fn patterns<W: Width>(make: impl Fn(&mut Words) -> [Range; 3]) -> Vec<[u64; 6]> {
     let mut words = Words(0x9E37_79B9_7F4A_7C15);
-    let cases: Vec<[u64; 6]> = (0..CASES).map(|_| ends::patterns::<W>(make(&mut words))).collect();
+    (0..CASES).map(|_| ends::patterns::<W>(make(&mut words))).collect()
+}
+
+fn narrowing<W: Width>(mix: &str, make: impl Fn(&mut Words) -> [Range; 3]) {
+    let cases = patterns::<W>(make);
     assert_eq!(
         round(tazsmibor::entry, W::BITS, &cases).1,
         round(baseline::call, W::BITS, &cases).1,
@@ -106,10 +110,20 @@ fn narrowing<W: Width>(mix: &str, make: impl Fn(&mut Words) -> [Range; 3]) {
     report(&format!("narrowing, width {}, {mix}", W::BITS), library, baseline);
 }
 
+/// How much of the baseline is no search: reading six ends, the four sums of those of x and a, writing six ends.
+fn ends_alone<W: Width>(mix: &str, make: impl Fn(&mut Words) -> [Range; 3]) {
+    let cases = patterns::<W>(make);
+    let [ends, baseline] =
+        best(ROUNDS, [&mut || round(baseline::ends_alone, W::BITS, &cases).0, &mut || round(baseline::call, W::BITS, &cases).0]);
+    println!("of the baseline, width {}, {mix}: reading, the four sums of the ends and writing {ends:.1} ns of {baseline:.1} ns, {:.2}", W::BITS, ends / baseline);
+}
+
 fn narrowings<W: Width>() {
     narrowing::<W>("wide intervals", wide::<W>);
     narrowing::<W>("a few ulps", few_ulps::<W>);
     narrowing::<W>("cancellation", cancellation::<W>);
+    ends_alone::<W>("a few ulps", few_ulps::<W>);
+    ends_alone::<W>("cancellation", cancellation::<W>);
 }
 
 /// By the length of the intervals.
