@@ -16,23 +16,27 @@ use Rattle.arith.specs.declared.interval.Cut.the-variants as Cut
 use Rattle.arith.specs.declared.interval.Image.the-variants as Image
 use Rattle.arith.specs.declared.narrow.Narrowed.{Narrowed}
 use Rattle.arith.specs.declared.narrow.Narrowed.the-variants as Narrowed
-use Rattle.arith.specs.declared.floats.Floats.the-variants.{Point, Span}
-use Rattle.arith.specs.Refusals.{refusal, orRefuse}
 use Rattle.arith.specs.Formats.{formatOf, ordinal, pattern}
 use Rattle.arith.specs.Sums.{markOf, inRange, addIn, addOf}
 use Rattle.arith.specs.Intervals.{endsFinite, isOrdered, common, reflected, intervalOf, sharedIn, movedIn, canonicalIn, cutIn, shiftIn, mirrorIn, canonicalOf, cutOf, shiftOf, mirrorOf}
 use Rattle.arith.specs.Narrows.{written, narrowAnswer, narrowOrdered, narrowIn, narrowOf}
 use Rattle.arith.specs.Floating.{floatsOf, floatAnswer, narrowFloatsOf}
-use Rattle.arith.specs.Answers.{Reply, gives, refuses, twoEnds, sumTold, cutTold, imageTold, narrowedTold, floatPatterns, floatsTold}
+use Rattle.arith.specs.Answers.{Reply, gives, refuses, sumTold, cutTold, imageTold, narrowedTold, floatPatterns, floatsTold}
 use Rattle.arith.specs.Replies as R
 use Rattle.arith.specs.Replies.{Test, replyAfter}
 use Rattle.arith.proofs.Intervals.{ends-both}
 use Rattle.arith.proofs.Callers.{answered-finite}
 
+-- ---- one test
+-- a function of what stands behind it, where it is passed and where not
+pub on-test : {A B : Type 0} (f : A → B) (ok : Bool) (a b : A) {c d : B} → (ok ≡ true → f a ≡ c) → f b ≡ d → f (cond ok a b) ≡ cond ok c d
+on-test f true a b e g = e refl
+on-test f false a b e g = g
+
 -- ---- an answer's chain of tests
-abbrev chain : {A : Type 0} → (Refusal → A) → List Test → A → A
+abbrev pub chain : {A : Type 0} → (Refusal → A) → List Test → A → A
 chain w [] rest = rest
-chain w (t ∷ ts) rest = orRefuse w (t .0) (t .1) (chain w ts rest)
+chain w (t ∷ ts) rest = cond (t .0) (chain w ts rest) (w (t .1))
 
 -- every test is passed
 abbrev Passed : List Test → Type 0
@@ -40,25 +44,21 @@ Passed [] = Unit {0}
 Passed (t ∷ ts) = (t .0 ≡ true) × Passed ts
 
 module _ {A B : Type 0} (w : Refusal → A) (told : A → Reply B) where
-  -- each refusal tells its number
+  -- each refusal is told
   abbrev Refuses : List Test → Type 0
   Refuses [] = Unit {0}
-  Refuses (t ∷ ts) = (told (w (refusal (t .1))) ≡ refuses (refusal (t .1))) × Refuses ts
-
-  one : (ok : Bool) (n : ℕ) (rest : A) (due : Reply B) → told (w (refusal n)) ≡ refuses (refusal n) → (ok ≡ true → told rest ≡ due) → told (orRefuse w ok n rest) ≡ orRefuse refuses ok n due
-  one true n rest due r e = e refl
-  one false n rest due r e = r
+  Refuses (t ∷ ts) = (told (w (t .1)) ≡ refuses (t .1)) × Refuses ts
 
   -- what the chain tells is the reply after its tests
   told-after : (ts us : List Test) (rest : A) (vs : List B) → Refuses ts → (Passed ts → told rest ≡ replyAfter us vs) → told (chain w ts rest) ≡ replyAfter (ts ++ us) vs
   told-after [] us rest vs r e = e tt
-  told-after (t ∷ ts) us rest vs r e = one (t .0) (t .1) (chain w ts rest) (replyAfter (ts ++ us) vs) (r .0) (λ p. told-after ts us rest vs (r .1) (λ q. e (p, q)))
+  told-after (t ∷ ts) us rest vs r e = on-test told (t .0) (chain w ts rest) (w (t .1)) (λ p. told-after ts us rest vs (r .1) (λ q. e (p, q))) (r .0)
 
   always : ((q : Refusal) → told (w q) ≡ refuses q) → (ts : List Test) → Refuses ts
   always r [] = tt
-  always r (t ∷ ts) = (r (refusal (t .1)), always r ts)
+  always r (t ∷ ts) = (r (t .1), always r ts)
 
-  told-chain : ((q : Refusal) → told (w q) ≡ refuses q) → (ts us : List Test) (rest : A) (vs : List B) → told rest ≡ replyAfter us vs → told (chain w ts rest) ≡ replyAfter (ts ++ us) vs
+  pub told-chain : ((q : Refusal) → told (w q) ≡ refuses q) → (ts us : List Test) (rest : A) (vs : List B) → told rest ≡ replyAfter us vs → told (chain w ts rest) ≡ replyAfter (ts ++ us) vs
   told-chain r ts us rest vs e = told-after ts us rest vs (always r ts) (λ _. e)
 
 -- an answer that is the one defined tells the reply due
@@ -116,17 +116,13 @@ narrow-told width x a b =
 -- the patterns of an interval's floats are its ends
 patterns-told : (I : Interval) → endsFinite (formatOf 64) I ≡ true → floatPatterns (floatsOf I) ≡ R.oneOrTwo I
 unfolding floatsOf
-patterns-told I h = go (eqb (I .low) (I .high))
+patterns-told I h = on-test floatPatterns (eqb (I .low) (I .high)) _ _ (λ _. ap (λ (p : ℕ). p ∷ []) l) (ap₂ (λ (p q : ℕ). p ∷ q ∷ []) l u)
   where
     l : toBits binary64 (ofBits binary64 (I .low)) ≡ I .low
     l = pattern-read binary64 (I .low) (ends-both (formatOf 64) I h .0)
 
     u : toBits binary64 (ofBits binary64 (I .high)) ≡ I .high
     u = pattern-read binary64 (I .high) (ends-both (formatOf 64) I h .1)
-
-    go : (t : Bool) → floatPatterns (cond t (Point (ofBits binary64 (I .low))) (Span (ofBits binary64 (I .low)) (ofBits binary64 (I .high)))) ≡ cond t (I .low ∷ []) (twoEnds I)
-    go true = ap (λ (p : ℕ). p ∷ []) l
-    go false = ap₂ (λ (p q : ℕ). p ∷ q ∷ []) l u
 
 module _ (x a b : Interval) where
   abbrev F : Format

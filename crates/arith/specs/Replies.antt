@@ -4,9 +4,10 @@ use mathlib.Core.List.{List, [], _∷_, _++_}
 use Prim.Native.Nat.{ℕ}
 use lib.Dec.{eqb}
 use Rattle.ladder.specs.Narrowing.{Narrowing, none, ends}
+use Rattle.arith.specs.declared.refusal.Refusal.{Refusal}
 use Rattle.arith.specs.declared.range.Range.{Range}
 use Rattle.arith.specs.declared.interval.Interval.{Interval}
-use Rattle.arith.specs.Refusals.{orRefuse}
+use Rattle.arith.specs.Refusals.{refusal}
 use Rattle.arith.specs.Formats.{isKnown, formatOf, isFinite, ordinal, pattern, sum}
 use Rattle.arith.specs.Sums.{isFiniteOrdinal, markOf}
 use Rattle.arith.specs.Intervals.{endsFinite, rangeOf, intervalOf, isOrdered, common, translated, reflected}
@@ -15,26 +16,26 @@ use Rattle.arith.specs.Narrows.{written}
 use Rattle.arith.specs.Answers.{Reply, gives, refuses, twoEnds}
 
 -- ---- tests
--- one test: whether it is passed, and the number of its refusal
+-- one test: whether it is passed, and its refusal
 abbrev pub Test : Type 0
-Test = Bool × ℕ
+Test = Bool × Refusal
 
 -- the first test in their order that is not passed refuses; where all are passed, the values are given
 abbrev pub replyAfter : {A : Type 0} → List Test → List A → Reply A
 replyAfter [] values = gives values
-replyAfter (test ∷ tests) values = orRefuse refuses (test .0) (test .1) (replyAfter tests values)
+replyAfter (test ∷ tests) values = cond (test .0) (replyAfter tests values) (refuses (test .1))
 
 -- 1: the width
 abbrev pub known : ℕ → Test
-known width = (isKnown width, 1)
+known width = (isKnown width, refusal 1)
 
 -- 2: a pattern
 abbrev pub finite : ℕ → ℕ → Test
-finite width p = (isFinite (formatOf width) p, 2)
+finite width p = (isFinite (formatOf width) p, refusal 2)
 
 -- 2: low, then high
 abbrev pub bothFinite : ℕ → Interval → Test
-bothFinite width I = (endsFinite (formatOf width) I, 2)
+bothFinite width I = (endsFinite (formatOf width) I, refusal 2)
 
 -- an interval by the ordinals of its ends
 abbrev pub ordinals : ℕ → Interval → Range
@@ -42,16 +43,16 @@ ordinals width I = rangeOf (formatOf width) I
 
 -- 3: low not above high
 abbrev pub ordered : ℕ → Interval → Test
-ordered width I = (isOrdered (ordinals width I), 3)
+ordered width I = (isOrdered (ordinals width I), refusal 3)
 
 -- 9: a sum, by its ordinal
 abbrev pub finiteSum : ℕ → ℕ → Test
-finiteSum width s = (isFiniteOrdinal (formatOf width) s, 9)
+finiteSum width s = (isFiniteOrdinal (formatOf width) s, refusal 9)
 
 -- 11: a triple
 abbrev pub solved : Narrowing → Test
-solved none = (false, 11)
-solved (ends X A B) = (true, 11)
+solved none = (false, refusal 11)
+solved (ends X A B) = (true, refusal 11)
 
 -- ---- the forward sum
 -- x ⊕ a, by its ordinal

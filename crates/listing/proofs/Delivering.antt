@@ -1,6 +1,5 @@
 -- What was written fits the lent buffer and is told as due, and a refusal leaves the buffer as it was. Rests on specs/Buffers.
 use mathlib.Core.Path.{_≡_, refl, ap, _∙_}
-use mathlib.Core.Bool.{Bool, true, false, cond}
 use mathlib.Core.List.{List, [], _∷_}
 use mathlib.Core.Logic.{inl, inr}
 use Prim.Native.Nat.{ℕ, _≤_}
@@ -10,9 +9,10 @@ use lib.ListN.{length}
 use borrow.Author.Tests.{le-leb, lt-leb}
 use Rattle.ladder.proofs.Cases.{le-or-lt}
 use Rattle.arith.specs.Refusals.{refusal}
-use Rattle.arith.specs.Answers.{gives, refuses}
+use Rattle.arith.proofs.Replies.{on-test, told-chain}
 use Rattle.sheet.specs.declared.kept.Sheet.{Sheet}
 use Rattle.sheet.specs.declared.kept.Answer.{Answer}
+use Rattle.sheet.specs.declared.kept.Answer.the-variants as Answer
 use Rattle.sheet.specs.declared.narrowing.Run.{Run}
 use Rattle.sheet.specs.declared.passes.Outcome.{Outcome}
 use Rattle.sheet.specs.declared.passes.Outcome.the-variants as Outcome
@@ -20,8 +20,8 @@ use Rattle.sheet.specs.Sheets.{testOf}
 use Rattle.sheet.specs.Runs.{Ended, settled, stopped, noTriple}
 use Rattle.sheet.specs.Steps.{endOf}
 use Rattle.sheet.specs.Narrowings.{ranOn, runAfter, narrowSheetOf}
-use Rattle.sheet.specs.Replies.{sheetTests, testAt}
-use Rattle.sheet.proofs.Replies.{told-after, sheet-after}
+use Rattle.sheet.specs.Replies.{sheetTests}
+use Rattle.sheet.proofs.Replies.{sheet-after}
 use Rattle.listing.specs.Listings.{listingOf}
 use Rattle.listing.specs.Buffers.{writtenTold, lengthAfter, sizeIn, storedIn, unlessRefused, writtenBy, bufferBy, Writes}
 use Rattle.listing.specs.declared.writer.Written.{Written}
@@ -54,11 +54,7 @@ run-kept run out = go (run .outcome)
 -- ---- the reply due
 size-told : (bytes out : List ℕ) → writtenTold (sizeIn bytes out) ≡ lengthAfter [] bytes out
 unfolding sizeIn
-size-told bytes out = go (leb (length bytes) (length out))
-  where
-    go : (ok : Bool) → writtenTold (cond ok (Length (length bytes)) (Refused (refusal 13))) ≡ cond ok (gives (length bytes ∷ [])) (refuses (refusal 13))
-    go true = refl
-    go false = refl
+size-told bytes out = on-test writtenTold (leb (length bytes) (length out)) _ _ (λ _. refl) refl
 
 -- a sheet's own tests first
 run-told : (s : Sheet) (out : List ℕ) → writtenTold (writtenBy (narrowSheetOf s) out) ≡ lengthAfter (sheetTests s) (listingOf (narrowSheetOf s)) out
@@ -66,7 +62,7 @@ unfolding writtenBy narrowSheetOf
 run-told s out =
     let bytes = listingOf (runAfter (testOf s) s) in
     ap (λ (a : Answer). writtenTold (unlessRefused (runAfter a s .outcome) Refused (sizeIn bytes out))) (sheet-after s) ∙
-    told-after (λ a. writtenTold (unlessRefused (runAfter a s .outcome) Refused (sizeIn bytes out))) (λ _. refl) (sheetTests s) (testAt (leb (length bytes) (length out)) 13 0 ∷ []) (length bytes ∷ []) (ended (endOf s) bytes)
+    told-chain Answer.Refused (λ a. writtenTold (unlessRefused (runAfter a s .outcome) Refused (sizeIn bytes out))) (λ _. refl) (sheetTests s) ((leb (length bytes) (length out), refusal 13) ∷ []) Answer.Done (length bytes ∷ []) (ended (endOf s) bytes)
   where
     ended : (e : Ended) (bytes : List ℕ) → writtenTold (unlessRefused (ranOn s e .outcome) Refused (sizeIn bytes out)) ≡ lengthAfter [] bytes out
     ended (settled p box) bytes = size-told bytes out

@@ -7,11 +7,11 @@ use lib.Dec.{leb}
 use lib.ListN.{length, drop}
 use Rattle.arith.specs.Refusals.{refusal}
 use Rattle.arith.specs.Answers.{Reply, gives, refuses}
+use Rattle.arith.specs.Replies.{Test, replyAfter}
 use Rattle.arith.specs.declared.refusal.Refusal.{Refusal}
 use Rattle.sheet.specs.declared.narrowing.Run.{Run}
 use Rattle.sheet.specs.declared.passes.Outcome.{Outcome}
 use Rattle.sheet.specs.declared.passes.Outcome.the-variants as Outcome
-use Rattle.sheet.specs.Replies.{Test, replyAfter, testAt}
 use Rattle.listing.specs.Listings.{listingOf}
 use Rattle.listing.specs.declared.writer.Written.{Written}
 use Rattle.listing.specs.declared.writer.Written.the-variants.{Length, Refused}
@@ -24,7 +24,7 @@ writtenTold (Refused r) = refuses r
 
 -- the reply due: some tests, 13 last; then the length of the bytes
 abbrev pub lengthAfter : List Test → List ℕ → List ℕ → Reply ℕ
-lengthAfter tests bytes out = replyAfter (tests ++ testAt (leb (length bytes) (length out)) 13 0 ∷ []) (length bytes ∷ [])
+lengthAfter tests bytes out = replyAfter (tests ++ (leb (length bytes) (length out), refusal 13) ∷ []) (length bytes ∷ [])
 
 -- ---- bytes written at the start of a buffer
 -- their number, or refusal 13 where the buffer is too short

@@ -7,8 +7,9 @@ use native.Mathlib.Omega.{arith}
 use lib.Dec.{eqb, ltb, leb}
 use lib.ListN.{length, drop}
 use Rattle.arith.specs.Answers.{Reply}
+use Rattle.arith.specs.Replies.{replyAfter}
+use Rattle.arith.proofs.Replies.{on-test}
 use Rattle.sheet.specs.Faults.{headFault, cellFault, sumFault}
-use Rattle.sheet.specs.Replies.{replyAfter}
 use Rattle.reader.specs.Bytes.{indexOf, before}
 use Rattle.reader.specs.Lines.{feed, lineOf}
 use Rattle.reader.specs.Steps.{headStep, cellStep, sumStep, admitted, pastLine, stepAt, nextOf, past, afterOf}
@@ -20,12 +21,7 @@ use Rattle.reader.specs.declared.cursor.Step.{Step}
 use Rattle.reader.specs.declared.cursor.Step.the-variants.{Head, Cell, Sum, End, Refused}
 
 -- ---- one test
--- the step where it is passed, else the other one
-test-told : (t : Bool) (a b : Step) {due other : Reply ℕ} → stepTold a ≡ due → stepTold b ≡ other → stepTold (cond t a b) ≡ cond t due other
-test-told true a b e f = e
-test-told false a b e f = f
-
--- the same, with the test's opposite
+-- a step that refuses where it holds; the reply's test is its opposite
 not-told : (t : Bool) (a b : Step) {due other : Reply ℕ} → stepTold a ≡ other → stepTold b ≡ due → stepTold (cond t a b) ≡ cond (not t) due other
 not-told true a b e f = e
 not-told false a b e f = f
@@ -33,21 +29,21 @@ not-told false a b e f = f
 -- ---- a line
 line-told : (l : Line) (n : ℕ) (c : Cursor) → stepTold (admitted l (c .line) (pastLine n c)) ≡ replyAfter (lineTests l c) (lineValues l)
 unfolding admitted headStep cellStep sumStep
-line-told (Line.Head w m) n c = test-told (eqb (headFault w m) 0) _ _ refl refl
-line-told (Line.Cell I) n c = test-told (eqb (cellFault (c .width) I) 0) _ _ (not-told (leb 64 (c .«cell_count»)) _ _ refl refl) refl
-line-told (Line.Sum t) n c = test-told (eqb (sumFault (c .«cell_count») t) 0) _ _ (not-told (leb 128 (c .«sum_count»)) _ _ refl refl) refl
+line-told (Line.Head w m) n c = on-test stepTold (eqb (headFault w m) 0) _ _ (λ _. refl) refl
+line-told (Line.Cell I) n c = on-test stepTold (eqb (cellFault (c .width) I) 0) _ _ (λ _. not-told (leb 64 (c .«cell_count»)) _ _ refl refl) refl
+line-told (Line.Sum t) n c = on-test stepTold (eqb (sumFault (c .«cell_count») t) 0) _ _ (λ _. not-told (leb 128 (c .«sum_count»)) _ _ refl refl) refl
 line-told Line.Malformed n c = refl
 
 -- ---- a text
 at-told : (ahead : List ℕ) (c : Cursor) → stepTold (stepAt ahead c) ≡ replyAt ahead c
 at-told ahead c =
-    test-told (ltb (indexOf feed ahead) (length ahead)) _ _
-    (line-told (lineOf (c .at) (c .width) (before feed ahead)) (indexOf feed ahead) c)
-    (test-told (eqb (length ahead) 0) _ _ (not-told (eqb (c .at) 0) _ _ refl refl) refl)
+    on-test stepTold (ltb (indexOf feed ahead) (length ahead)) _ _
+    (λ _. line-told (lineOf (c .at) (c .width) (before feed ahead)) (indexOf feed ahead) c)
+    (on-test stepTold (eqb (length ahead) 0) _ _ (λ _. not-told (eqb (c .at) 0) _ _ refl refl) refl)
 
 pub next-told : (text : List ℕ) (c : Cursor) → stepTold (nextOf text c) ≡ replyNext text c
 unfolding nextOf replyNext
-next-told text c = test-told (ltb 8192 (length text)) _ _ refl (at-told (drop (c .at) text) c)
+next-told text c = on-test stepTold (ltb 8192 (length text)) _ _ (λ _. refl) (at-told (drop (c .at) text) c)
 
 -- a refused record and the end are stayed at
 past-stays : (s : Step) (c : Cursor) → stepTold s .values ≡ [] → past s c ≡ c

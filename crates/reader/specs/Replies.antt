@@ -6,8 +6,9 @@ use Prim.Native.Nat.{ℕ}
 use lib.Dec.{eqb, ltb, leb}
 use lib.ListN.{length, drop}
 use Rattle.arith.specs.Answers.{Reply, gives, refuses, twoEnds}
+use Rattle.arith.specs.Replies.{Test, replyAfter}
 use Rattle.sheet.specs.Faults.{headFault, cellFault, sumFault}
-use Rattle.sheet.specs.Replies.{Test, replyAfter, testAt, faultless}
+use Rattle.sheet.specs.Replies.{testAt, faultless}
 use Rattle.reader.specs.Bytes.{indexOf, before}
 use Rattle.reader.specs.Lines.{feed, lineOf}
 use Rattle.reader.specs.declared.line.Line.{Line}

@@ -1,13 +1,13 @@
 -- What opening and adding tell is the reply due, test by test.
 -- Assumes nothing.
 use mathlib.Core.Path.{_≡_, refl, sym, ap, ap₂, subst, _∙_}
-use mathlib.Core.Bool.{Bool, true, false, cond}
+use mathlib.Core.Bool.{Bool}
 use mathlib.Core.List.{List, [], _∷_, _++_, append-nil}
 use Prim.Native.Nat.{ℕ, _+_}
 use lib.Dec.{leb, ltb}
-use Rattle.arith.specs.declared.refusal.Refusal.{Refusal}
 use Rattle.arith.specs.declared.interval.Interval.{Interval}
-use Rattle.arith.specs.Answers.{Reply, refuses}
+use Rattle.arith.specs.Replies.{Test, replyAfter}
+use Rattle.arith.proofs.Replies.{on-test, chain, told-chain}
 use Rattle.sheet.specs.declared.kept.Record.{Record}
 use Rattle.sheet.specs.declared.kept.Sheet.{Sheet}
 use Rattle.sheet.specs.declared.kept.Answer.{Answer}
@@ -16,21 +16,16 @@ use Rattle.sheet.specs.declared.kept.Kept.{Kept}
 use Rattle.sheet.specs.Cells.{canonicalCell}
 use Rattle.sheet.specs.Faults.{cellFault, sumFault}
 use Rattle.sheet.specs.Sheets.{andThen, keptBy, blank, openOf, firstFault, testLists, testOf, usedCells, usedSums, addTest, tidied, withCell, withSum, addCellOf, addSumOf}
-use Rattle.sheet.specs.Replies.{Test, replyAfter, testAt, faultless, allFaultless, openTests, listTests, sheetTests, addCellTests, addSumTests, keptTold, Keeps}
+use Rattle.sheet.specs.Replies.{testAt, faultless, allFaultless, openTests, listTests, sheetTests, addCellTests, addSumTests, keptTold, Keeps}
 
 -- ---- the answer of some tests
 abbrev pub answerAfter : List Test → Answer
-answerAfter [] = Done
-answerAfter (t ∷ ts) = cond (t .0) (answerAfter ts) (Refused (t .1))
+answerAfter ts = chain Refused ts Done
 
 -- tests after tests
 then-after : (ts us : List Test) → andThen (answerAfter ts) (answerAfter us) ≡ answerAfter (ts ++ us)
 then-after [] us = refl
-then-after (t ∷ ts) us = go (t .0) (then-after ts us)
-  where
-    go : (ok : Bool) → andThen (answerAfter ts) (answerAfter us) ≡ answerAfter (ts ++ us) → andThen (cond ok (answerAfter ts) (Refused (t .1))) (answerAfter us) ≡ cond ok (answerAfter (ts ++ us)) (Refused (t .1))
-    go true e = e
-    go false e = refl
+then-after (t ∷ ts) us = on-test (λ (a : Answer). andThen a (answerAfter us)) (t .0) _ _ (λ _. then-after ts us) refl
 
 -- an answer after an answer
 both-after : (ts us : List Test) {a b : Answer} → a ≡ answerAfter ts → b ≡ answerAfter us → andThen a b ≡ answerAfter (ts ++ us)
@@ -62,18 +57,9 @@ add-after : (s : Sheet) (fault : ℕ) (room : Bool) → addTest (testOf s) fault
 add-after s fault room = both-after (sheetTests s) (faultless fault 0 ∷ testAt room 10 0 ∷ []) (sheet-after s) (both-after (faultless fault 0 ∷ []) (testAt room 10 0 ∷ []) refl refl)
 
 -- ---- the reply
--- what follows an answer tells the reply after its tests, where it tells each refusal and, with nothing refused, the reply after those that follow
-pub told-after : {B : Type 0} (told : Answer → Reply B) → ((q : Refusal) → told (Refused q) ≡ refuses q) → (ts us : List Test) (vs : List B) → told Done ≡ replyAfter us vs → told (answerAfter ts) ≡ replyAfter (ts ++ us) vs
-told-after told r [] us vs e = e
-told-after told r (t ∷ ts) us vs e = go (t .0) (told-after told r ts us vs e)
-  where
-    go : (ok : Bool) → told (answerAfter ts) ≡ replyAfter (ts ++ us) vs → told (cond ok (answerAfter ts) (Refused (t .1))) ≡ cond ok (replyAfter (ts ++ us) vs) (refuses (t .1))
-    go true k = k
-    go false k = r (t .1)
-
 module _ (old new : Sheet) where
   kept-told : (ts : List Test) → keptTold (keptBy (answerAfter ts) old new) ≡ replyAfter ts (new ∷ [])
-  kept-told ts = told-after (λ a. keptTold (keptBy a old new)) (λ _. refl) ts [] (new ∷ []) refl ∙ ap (λ (us : List Test). replyAfter us (new ∷ [])) (append-nil ts)
+  kept-told ts = told-chain Refused (λ a. keptTold (keptBy a old new)) (λ _. refl) ts [] Done (new ∷ []) refl ∙ ap (λ (us : List Test). replyAfter us (new ∷ [])) (append-nil ts)
 
   -- a refusal hands the sheet back as it came
   refused-kept : (a : Answer) → (keptTold (keptBy a old new) .number ≡ 0 → ⊥) → keptBy a old new .sheet ≡ old

@@ -1,12 +1,12 @@
 -- 01's replies that are due from a kept sheet: its tests in their order, each with the place of its refusal, then the new sheet. Assumes nothing.
 use mathlib.Core.Path.{_≡_}
-use mathlib.Core.Bool.{Bool, cond}
+use mathlib.Core.Bool.{Bool}
 use mathlib.Core.List.{List, [], _∷_, _++_}
 use Prim.Native.Nat.{ℕ, _+_}
 use lib.Dec.{leb, ltb, eqb}
-use Rattle.arith.specs.declared.refusal.Refusal.{Refusal}
 use Rattle.arith.specs.declared.interval.Interval.{Interval}
 use Rattle.arith.specs.Answers.{Reply, gives, refuses}
+use Rattle.arith.specs.Replies.{Test, replyAfter}
 use Rattle.sheet.specs.declared.kept.Record.{Record}
 use Rattle.sheet.specs.declared.kept.Sheet.{Sheet}
 use Rattle.sheet.specs.declared.kept.Answer.{Answer}
@@ -16,15 +16,6 @@ use Rattle.sheet.specs.Faults.{headFault, cellFault, sumFault}
 use Rattle.sheet.specs.Sheets.{usedCells, usedSums}
 
 -- ---- tests
--- one test: whether it is passed, and its refusal
-abbrev pub Test : Type 0
-Test = Bool × Refusal
-
--- the first test in their order that is not passed refuses; where all are passed, the values are given
-abbrev pub replyAfter : {A : Type 0} → List Test → List A → Reply A
-replyAfter [] values = gives values
-replyAfter (test ∷ tests) values = cond (test .0) (replyAfter tests values) (refuses (test .1))
-
 -- a condition, with the number and the place of its refusal
 abbrev pub testAt : Bool → ℕ → ℕ → Test
 testAt ok number place = (ok, record { number = number; place = place })
