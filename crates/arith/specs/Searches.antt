@@ -1,5 +1,5 @@
 -- What the functions below the narrowing answer: each answer's enum goes over into what `ladder` says of it. Assumes nothing.
-use Prim.Native.Nat.{ℕ, _+_, _<_}
+use Prim.Native.Nat.{ℕ}
 use Rattle.ladder.specs.Solution.{Interval, Solution}
 use Rattle.ladder.specs.Narrowing as N
 use Rattle.ladder.specs.Narrowing.{Narrowing, none, ends}
@@ -9,8 +9,6 @@ use Rattle.arith.specs.declared.range.Range.{Range}
 use Rattle.arith.specs.declared.operand.Found.{Found}
 use Rattle.arith.specs.declared.operand.Found.the-variants as Found
 use Rattle.arith.specs.declared.corner.Operands.{Operands}
-use Rattle.arith.specs.declared.corner.Turn.{Turn}
-use Rattle.arith.specs.declared.corner.Turn.the-variants.{Solved, Ended, Next}
 use Rattle.arith.specs.declared.corner.Corner.{Corner}
 use Rattle.arith.specs.declared.corner.Corner.the-variants as Corner
 use Rattle.arith.specs.declared.narrow.Ranges.{Ranges}
@@ -58,26 +56,21 @@ abbrev pub HasB : Format → Range → Range → Range → ℕ → Type 0
 HasB F X A B = N.HasB (F .fraction) (F .exponent) (span X) (span A) (span B)
 
 -- ---- the corner of the triples
--- no triple has an x below x or an a above a
-abbrev pub Frontier : Format → Range → Range → Range → ℕ → ℕ → Type 0
-Frontier F X A B = S.Frontier (F .fraction) (F .exponent) (span X) (span A) (span B)
-
--- one turn of the walk at the frontier x, a: they make the triple at the corner, or there is no triple, or a frontier nearer to it
-abbrev pub TurnOf : Format → Range → Range → Range → ℕ → ℕ → Turn → Type 0
-TurnOf F X A B x a (Solved b) = S.Corner (F .fraction) (F .exponent) (span X) (span A) (span B) x a b
-TurnOf F X A B x a Ended = S.Never (HasX F X A B)
-TurnOf F X A B x a (Next y c) = (x + c < y + a) × Frontier F X A B y c
-
--- the whole walk: the triple at the corner, or that there is none
+-- the triple with the least x and the greatest a, or that there is none
 abbrev pub CornerOf : Format → Range → Range → Range → Corner → Type 0
 CornerOf F X A B (Corner.At x a b) = S.Corner (F .fraction) (F .exponent) (span X) (span A) (span B) x a b
 CornerOf F X A B Corner.Absent = S.Never (HasX F X A B)
 
--- other operands, finite too, that make the same triples
+-- operands with nothing too coarse for B
+abbrev pub Fine : Format → Range → Range → Range → Type 0
+Fine F X A B = S.Fine (F .fraction) (F .exponent) (span X) (span A) (span B)
+
+-- other operands, finite too, that make the same triples, with nothing too coarse for B
 pub record SameTriples (F : Format) (X A B : Range) (O : Operands) : Type 0 where
   pub x-ends : Ends F (O .x)
   pub a-ends : Ends F (O .a)
   pub kept : (x a b : ℕ) → Triple F X A B x a b → Triple F (O .x) (O .a) B x a b
+  pub fine : Fine F (O .x) (O .a) B
   pub given : (x a b : ℕ) → Triple F (O .x) (O .a) B x a b → Triple F X A B x a b
 
 -- ---- the narrowing of ranges

@@ -1,7 +1,7 @@
 // The clamp: a power of two that divides no value of the sum's range, and an operand's range without the values that are all its multiples.
 ghost use mathlib.Core.Path.{_≡_};
-ghost use Prim.Native.Nat.{_/_, _^_, _≤_, _<_};
-ghost use Rattle.ladder.specs.Search.{NoMultiple, raised, lowered};
+ghost use Prim.Native.Nat.{_-_, _/_, _^_, _≤_, _<_};
+ghost use Rattle.ladder.specs.Search.{NoMultiple, SomeMultiple, raised, lowered};
 ghost use Rattle.arith.specs.Formats.{Sound};
 ghost use Rattle.arith.specs.Exacts.{Fraction};
 ghost use Rattle.arith.specs.Intervals.{Ends};
@@ -13,17 +13,18 @@ use crate::words::digits;
 use crate::words::shift_left;
 use crate::words::shift_right;
 
-// How many low digits to drop until p and q agree.
+// How many low digits to drop until p and q agree; with one less they do not.
 fn differing(p: u64, q: u64) -> u64
-    ensures { λ r. ⌜ (p / 2 ^ r ≡ q / 2 ^ r) × (r ≤ 64) ⌝ }
+    requires { ⌜ p < q ⌝ }
+    ensures { λ r. ⌜ (p / 2 ^ r ≡ q / 2 ^ r) × (0 < r) × (p / 2 ^ (r - 1) < q / 2 ^ (r - 1)) × (r ≤ 64) ⌝ }
 {
     digits(p ^ q)
 }
 
-// A k such that no magnitude from lo to hi is a multiple of 2^k.
+// A k such that no magnitude from lo to hi is a multiple of 2^k, but one is of half of that.
 pub(crate) fn granularity(fraction: u64, lo: u64, hi: u64) -> u64
     requires { ⌜ (Fraction fraction) × (0 < lo) × (lo ≤ hi) ⌝ }
-    ensures { λ k. ⌜ NoMultiple fraction k lo hi ⌝ }
+    ensures { λ k. ⌜ (NoMultiple fraction k lo hi) × (SomeMultiple fraction k lo hi) ⌝ }
 {
     let field = shift_right(hi, fraction);
     if shift_right(lo, fraction) != field {

@@ -1,8 +1,8 @@
-// The corner of the triples: the least x and the greatest a in a triple stand in one together. The walk to it begins at x's low and a's high end; x goes up where the sum falls short of b, and a comes down where it is past b.
+// The corner of the triples: the least x and the greatest a in a triple stand in one together. The walk to it begins at x's low and a's high end; x goes up where the sum falls short of b, and a comes down where it is past b. There is no loop: the clamp leaves two turns at most.
 ghost use Prim.Native.Nat.{_≤_, _<_};
 ghost use Rattle.arith.specs.Formats.{Sound, sum};
 ghost use Rattle.arith.specs.Intervals.{Ends};
-ghost use Rattle.arith.specs.Searches.{Frontier, TurnOf, CornerOf, SameTriples};
+ghost use Rattle.arith.specs.Searches.{CornerOf, Fine, SameTriples};
 use crate::clamp::granularity;
 use crate::clamp::lower;
 use crate::clamp::raise;
@@ -19,67 +19,67 @@ pub(crate) struct Operands {
     pub(crate) a: Range,
 }
 
-// What one turn finds: the sum, inside b; that there is no triple; or the next x and a to look at.
-pub(crate) enum Turn {
-    Solved(u64),
-    Ended,
-    Next { x: u64, a: u64 },
-}
-
 // The triple with the least x and the greatest a, or that there is none.
 pub(crate) enum Corner {
     At { x: u64, a: u64, b: u64 },
     Absent,
 }
 
-// The turn at p and q where their sum falls short of b: up to the least x that makes it large enough.
-fn step_up(format: Format, p: u64, q: u64, x: Range, a: Range, b: Range) -> Turn
-    requires { ⌜ (Sound format) × (Ends format x) × (Ends format a) × (Ends format b) × (Frontier format x a b p q) × (sum format p q < b .low) ⌝ }
-    ensures { λ r. ⌜ TurnOf format x a b p q r ⌝ }
+// The corner where the sum of x's low and a's high end falls short of b: x goes up, and if that is past b, a comes down.
+fn climb(format: Format, x: Range, a: Range, b: Range) -> Corner
+    requires { ⌜ (Sound format) × (Ends format x) × (Ends format a) × (Ends format b) × (x .low ≤ x .high) × (a .low ≤ a .high) × (Fine format x a b) × (sum format (x .low) (a .high) < b .low) ⌝ }
+    ensures { λ r. ⌜ CornerOf format x a b r ⌝ }
 {
-    let rest = Range {
-        low: p,
-        high: x.high,
+    let Found::At(p) = least_operand(format, a.high, b.low, x) else {
+        return Corner::Absent;
     };
-    match least_operand(format, q, b.low, rest) {
-        Found::At(y) => Turn::Next { x: y, a: q },
-        Found::Absent => Turn::Ended,
+    let s = add_ordinals(format, p, a.high);
+    if s <= b.high {
+        return Corner::At {
+            x: p,
+            a: a.high,
+            b: s,
+        };
     }
-}
-
-// Where their sum is past b: down to the greatest a that makes it small enough.
-fn step_down(format: Format, p: u64, q: u64, x: Range, a: Range, b: Range) -> Turn
-    requires { ⌜ (Sound format) × (Ends format x) × (Ends format a) × (Ends format b) × (Frontier format x a b p q) × (b .high < sum format p q) ⌝ }
-    ensures { λ r. ⌜ TurnOf format x a b p q r ⌝ }
-{
-    let rest = Range {
-        low: a.low,
-        high: q,
+    let Found::At(q) = greatest_operand(format, p, b.high, a) else {
+        return Corner::Absent;
     };
-    match greatest_operand(format, p, b.high, rest) {
-        Found::At(c) => Turn::Next { x: p, a: c },
-        Found::Absent => Turn::Ended,
+    Corner::At {
+        x: p,
+        a: q,
+        b: add_ordinals(format, p, q),
     }
 }
 
-// One turn at p and q, below and above which no triple lies.
-fn take_turn(format: Format, p: u64, q: u64, x: Range, a: Range, b: Range) -> Turn
-    requires { ⌜ (Sound format) × (Ends format x) × (Ends format a) × (Ends format b) × (Frontier format x a b p q) ⌝ }
-    ensures { λ r. ⌜ TurnOf format x a b p q r ⌝ }
+// Where it is past b: a comes down, and if that falls short of b, x goes up.
+fn descend(format: Format, x: Range, a: Range, b: Range) -> Corner
+    requires { ⌜ (Sound format) × (Ends format x) × (Ends format a) × (Ends format b) × (x .low ≤ x .high) × (a .low ≤ a .high) × (Fine format x a b) × (b .high < sum format (x .low) (a .high)) ⌝ }
+    ensures { λ r. ⌜ CornerOf format x a b r ⌝ }
 {
-    let s = add_ordinals(format, p, q);
-    if s < b.low {
-        return step_up(format, p, q, x, a, b);
+    let Found::At(q) = greatest_operand(format, x.low, b.high, a) else {
+        return Corner::Absent;
+    };
+    let s = add_ordinals(format, x.low, q);
+    if b.low <= s {
+        return Corner::At {
+            x: x.low,
+            a: q,
+            b: s,
+        };
     }
-    if b.high < s {
-        return step_down(format, p, q, x, a, b);
+    let Found::At(p) = least_operand(format, q, b.low, x) else {
+        return Corner::Absent;
+    };
+    Corner::At {
+        x: p,
+        a: q,
+        b: add_ordinals(format, p, q),
     }
-    Turn::Solved(s)
 }
 
-// The corner, turn by turn.
+// The corner of operands with nothing too coarse for b: two turns are enough.
 fn walk(format: Format, x: Range, a: Range, b: Range) -> Corner
-    requires { ⌜ (Sound format) × (Ends format x) × (Ends format a) × (Ends format b) ⌝ }
+    requires { ⌜ (Sound format) × (Ends format x) × (Ends format a) × (Ends format b) × (Fine format x a b) ⌝ }
     ensures { λ r. ⌜ CornerOf format x a b r ⌝ }
 {
     if x.high < x.low {
@@ -88,21 +88,21 @@ fn walk(format: Format, x: Range, a: Range, b: Range) -> Corner
     if a.high < a.low {
         return Corner::Absent;
     }
-    let mut p = x.low;
-    let mut q = a.high;
-    loop {
-        match take_turn(format, p, q, x, a, b) {
-            Turn::Solved(s) => return Corner::At { x: p, a: q, b: s },
-            Turn::Ended => return Corner::Absent,
-            Turn::Next { x: y, a: c } => {
-                p = y;
-                q = c;
-            }
-        }
+    let s = add_ordinals(format, x.low, a.high);
+    if s < b.low {
+        return climb(format, x, a, b);
+    }
+    if b.high < s {
+        return descend(format, x, a, b);
+    }
+    Corner::At {
+        x: x.low,
+        a: a.high,
+        b: s,
     }
 }
 
-// The operands without what is too coarse for b, where b has one sign: no triple is lost.
+// The operands without what is too coarse for b, where zero is not in b: no triple is lost.
 fn clamp(format: Format, x: Range, a: Range, b: Range) -> Operands
     requires { ⌜ (Sound format) × (Ends format x) × (Ends format a) × (Ends format b) × (b .low ≤ b .high) ⌝ }
     ensures { λ r. ⌜ SameTriples format x a b r ⌝ }
@@ -126,7 +126,7 @@ fn clamp(format: Format, x: Range, a: Range, b: Range) -> Operands
     Operands { x, a }
 }
 
-// The corner by search: the clamp keeps the walk short.
+// The corner by search.
 pub(crate) fn search_corner(format: Format, x: Range, a: Range, b: Range) -> Corner
     requires { ⌜ (Sound format) × (Ends format x) × (Ends format a) × (Ends format b) × (b .low ≤ b .high) ⌝ }
     ensures { λ r. ⌜ CornerOf format x a b r ⌝ }

@@ -1,12 +1,12 @@
--- Which powers of two divide no value of a run of m: more than the upper value has digits, or, inside one binade, the digits in which the number before the lowest significand and the highest differ. Assumes nothing.
+-- Which powers of two divide no value of a run of m, while half of them divides one: more than the upper value has digits, or, inside one binade, the digits in which the number before the lowest significand and the highest differ. Assumes nothing.
 use mathlib.Core.Path.{_≡_, sym, ap, _∙_, subst}
 use mathlib.Core.Logic.{inl, inr}
 use Prim.Native.Nat.{ℕ, _+_, _-_, _*_, _/_, _^_, _≤_, _<_, _∣_}
-use native.Mathlib.Nat.{le-refl, le-of-dvd, le-div-iff-mul-le, div-lt-iff-lt-mul, div-add-mod', dvd-of-mul-dvd-mul-right, mod-eq-zero-of-dvd}
+use native.Mathlib.Nat.{le-refl, le-of-dvd, le-div-iff-mul-le, div-lt-iff-lt-mul, div-add-mod', dvd-of-mul-dvd-mul-right, mod-eq-zero-of-dvd, div-mul-le-self, dvd-refl, dvd-mul-left, mul-dvd-mul-right}
 use native.Mathlib.Omega.{arith}
 use lib.Pow.{pow-pos, pow-add}
 use Rattle.ladder.specs.Magnitude.{magnitude}
-use Rattle.ladder.specs.Search.{NoMultiple}
+use Rattle.ladder.specs.Search.{NoMultiple, SomeMultiple}
 use Rattle.ladder.proofs.Magnitude.{magnitude-lt, magnitude-high, magnitude-is, Counted}
 
 -- between u and v, which agree but for j digits, lies no multiple of 2^j
@@ -17,6 +17,10 @@ gapless u v s j e l h d =
     let a : u / 2 ^ j < q = div-lt-iff-lt-mul (pow-pos j) .1 (omega arith) in
     let b : q ≤ v / 2 ^ j = le-div-iff-mul-le (pow-pos j) .1 (omega arith) in
     omega arith
+
+more : {h k p q : ℕ} → Counted h k p → p ≤ q → Counted h k q
+more (inl z) w = inl z
+more (inr z) w = inr (omega arith)
 
 module _ (f : ℕ) where
   -- a power of two
@@ -29,6 +33,12 @@ module _ (f : ℕ) where
       let a = le-of-dvd (omega (arith, magnitude-lt f 0 m (omega arith))) d in
       omega (arith, magnitude-power k, magnitude-lt f m ((k + 1) * 2 ^ f) (omega arith))
 
+  -- but the power of two at which its binade begins is a multiple of half of that
+  pub binade-some : (q lo hi : ℕ) → 0 < q → lo ≤ q * 2 ^ f → q * 2 ^ f ≤ hi → SomeMultiple f (f + q) lo hi
+  binade-some q lo hi p l h =
+      let is : magnitude f (q * 2 ^ f) ≡ 2 ^ (f + q - 1) = ap (magnitude f) (ap (λ (x : ℕ). x * 2 ^ f) (omega arith)) ∙ magnitude-power (q - 1) ∙ ap (λ (x : ℕ). 2 ^ x) (omega arith) in
+      record { m = q * 2 ^ f; low = l; high = h; divides = rw is (dvd-refl (2 ^ (f + q - 1))) }
+
   -- in the binade of step 2^k, by the significands lo and hi
   pub binade-free : (j k lo hi : ℕ) → Counted (2 ^ f) k lo → hi ≤ 2 * 2 ^ f → 0 < lo → (lo - 1) / 2 ^ j ≡ hi / 2 ^ j → NoMultiple f (j + k) (k * 2 ^ f + lo) (k * 2 ^ f + hi)
   binade-free j k lo hi c h p e m l g d =
@@ -36,7 +46,14 @@ module _ (f : ℕ) where
       let is : magnitude f m ≡ s * 2 ^ k = ap (magnitude f) (omega arith) ∙ magnitude-is f k s (more c (omega arith)) (omega arith) in
       let d' : 2 ^ j * 2 ^ k ∣ s * 2 ^ k = subst (λ (x : ℕ). x ∣ s * 2 ^ k) (pow-add 2 j k) (subst (λ (x : ℕ). 2 ^ (j + k) ∣ x) is d) in
       gapless (lo - 1) hi s j e (omega arith) (omega arith) (dvd-of-mul-dvd-mul-right (2 ^ j) (pow-pos k) d')
-    where
-      more : {q : ℕ} → Counted (2 ^ f) k lo → lo ≤ q → Counted (2 ^ f) k q
-      more (inl z) w = inl z
-      more (inr z) w = inr (omega arith)
+
+  -- but where they differ in the last of these digits, one of the significands is a multiple of half of that
+  pub digits-some : (j k lo hi : ℕ) → Counted (2 ^ f) k lo → hi ≤ 2 * 2 ^ f → 0 < j → (lo - 1) / 2 ^ (j - 1) < hi / 2 ^ (j - 1) → SomeMultiple f (j + k) (k * 2 ^ f + lo) (k * 2 ^ f + hi)
+  digits-some j k lo hi c h p l =
+      let d = 2 ^ (j - 1) in
+      let t = hi / d * d in
+      let low : lo - 1 < t = div-lt-iff-lt-mul (pow-pos (j - 1)) .0 l in
+      let high : t ≤ hi = div-mul-le-self hi d in
+      let is : magnitude f (k * 2 ^ f + t) ≡ t * 2 ^ k = magnitude-is f k t (more c (omega arith)) (omega arith) in
+      let e : 2 ^ (j + k - 1) ≡ d * 2 ^ k = ap (λ (x : ℕ). 2 ^ x) (omega arith) ∙ pow-add 2 (j - 1) k in
+      record { m = k * 2 ^ f + t; low = omega arith; high = omega arith; divides = rw (is, e) (mul-dvd-mul-right d (dvd-mul-left d (hi / d)) (2 ^ k)) }

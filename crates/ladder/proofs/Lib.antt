@@ -23,6 +23,8 @@ pub mod Hull
 pub mod Frontier
 pub mod Granularity
 pub mod Clamp
+pub mod Skips
+pub mod Walk
 pub mod LeastSum
 pub mod Operand
 pub mod Corners

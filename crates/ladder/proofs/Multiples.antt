@@ -12,10 +12,10 @@ use Rattle.ladder.proofs.Cases.{le-or-lt}
 use Rattle.ladder.proofs.Magnitude.{parts, magnitude-parts}
 use Rattle.ladder.proofs.Rounding.{floor, exact, half}
 
-pow-dvd : (j k : ℕ) → j ≤ k → 2 ^ j ∣ 2 ^ k
+pub pow-dvd : (j k : ℕ) → j ≤ k → 2 ^ j ∣ 2 ^ k
 pow-dvd j k h = subst (λ (x : ℕ). 2 ^ j ∣ x) (sym (pow-add 2 (k - j) j) ∙ ap (λ (x : ℕ). 2 ^ x) (omega arith)) (dvd-mul-left (2 ^ j) (2 ^ (k - j)))
 
-times-dvd : (j k w : ℕ) → j ≤ k → 2 ^ j ∣ w * 2 ^ k
+pub times-dvd : (j k w : ℕ) → j ≤ k → 2 ^ j ∣ w * 2 ^ k
 times-dvd j k w h = dvd-mul-left-of-dvd (2 ^ j) (pow-dvd j k h) w
 
 pub round-dvd : (f n j : ℕ) → 1 ≤ f → 2 ^ j ∣ n → 2 ^ j ∣ magnitude f (round f n)

@@ -3,13 +3,12 @@ use mathlib.Core.Path.{ap, _∙_}
 use Prim.Native.Nat.{ℕ, _*_, _≤_}
 use native.Mathlib.Omega.{arith}
 use Rattle.ladder.specs.Ordinal.{sign, mirrored, Finite}
-use Rattle.ladder.specs.Sum.{sum}
 use Rattle.ladder.specs.Solution.{Interval, In, Solution}
 use Rattle.ladder.specs.Narrowing.{HasX, HasA, HasB, Spans}
 use Rattle.ladder.specs.Search.{Never, Least, Greatest, Corner, Bounded, reflection}
 use Rattle.ladder.proofs.Ordinals.{infinity-lt-sign}
 use Rattle.ladder.proofs.Sum.{sum-comm, sum-mirror}
-use Rattle.ladder.proofs.Extremes.{mirror-never, mirror-greatest}
+use Rattle.ladder.proofs.Extremes.{mirror-greatest}
 
 -- ---- the operands swapped
 pub swap : {f e : ℕ} {X A B : Interval} {x a b : ℕ} → Solution f e X A B x a b → Solution f e A X B a x b

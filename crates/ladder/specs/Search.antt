@@ -1,7 +1,7 @@
 -- What the search for the ends of a narrowing finds on its way, each by what holds of it: the least number with a property, the least operand with a sum of at least b, the corner at which the least x and the greatest a stand in a triple.
 -- Also the two images of an interval that the search uses: its mirror, and the interval without what is too coarse. Assumes nothing.
 use mathlib.Core.Logic.{_↔_}
-use Prim.Native.Nat.{ℕ, _+_, _-_, _*_, _^_, _≤_, _∣_, max}
+use Prim.Native.Nat.{ℕ, _+_, _-_, _*_, _^_, _≤_, _<_, _∣_, max}
 use Rattle.ladder.specs.Magnitude.{magnitude}
 use Rattle.ladder.specs.Ordinal.{sign, mirrored, Finite, above, below}
 use Rattle.ladder.specs.Sum.{sum}
@@ -64,6 +64,11 @@ pub record Corner (f e : ℕ) (X A B : Interval) (x a b : ℕ) : Type 0 where
   pub frontier : Frontier f e X A B x a
   pub solution : Solution f e X A B x a b
 
+-- B lies between the sums of z with y and with the number after y
+pub record Skips (f e : ℕ) (B : Interval) (z y : ℕ) : Type 0 where
+  pub short : sum f e z y < B .low
+  pub past : B .high < sum f e z (y + 1)
+
 -- ---- images of an interval
 -- both ends are finite
 pub record Bounded (f e : ℕ) (I : Interval) : Type 0 where
@@ -78,6 +83,13 @@ reflection f e I = record { low = mirrored f e (I .high); high = mirrored f e (I
 abbrev pub NoMultiple : ℕ → ℕ → ℕ → ℕ → Type 0
 NoMultiple f k lo hi = (m : ℕ) → lo ≤ m → m ≤ hi → 2 ^ k ∣ magnitude f m → ⊥
 
+-- a value of m from lo to hi is a multiple of half of 2^k units
+pub record SomeMultiple (f k lo hi : ℕ) : Type 0 where
+  pub m : ℕ
+  pub low : lo ≤ m
+  pub high : m ≤ hi
+  pub divides : 2 ^ (k - 1) ∣ magnitude f m
+
 -- without the values below zero of 2^(k + f) units and more: from there on every value is a multiple of 2^k
 abbrev pub raised : ℕ → ℕ → ℕ → Interval → Interval
 raised f e k I = record { low = max (I .low) (sign f e + 1 - (k + 1) * 2 ^ f); high = I .high }
@@ -85,3 +97,9 @@ raised f e k I = record { low = max (I .low) (sign f e + 1 - (k + 1) * 2 ^ f); h
 -- the mirror image: without the values above zero of that size
 abbrev pub lowered : ℕ → ℕ → ℕ → Interval → Interval
 lowered f e k I = reflection f e (raised f e k (reflection f e I))
+
+-- what the clamp leaves of the operands' intervals: nothing too coarse for B, if zero is not in B
+pub data Fine (f e : ℕ) (X A B : Interval) : Type 0 where
+  around : B .low ≤ sign f e → sign f e ≤ B .high → Fine f e X A B
+  over : (k : ℕ) → sign f e < B .low → SomeMultiple f k (B .low - sign f e) (B .high - sign f e) → sign f e < X .low + (k + 1) * 2 ^ f → sign f e < A .low + (k + 1) * 2 ^ f → Fine f e X A B
+  under : (k : ℕ) → B .high < sign f e → SomeMultiple f k (sign f e - B .high) (sign f e - B .low) → X .high < sign f e + (k + 1) * 2 ^ f → A .high < sign f e + (k + 1) * 2 ^ f → Fine f e X A B

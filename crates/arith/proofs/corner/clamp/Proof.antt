@@ -24,7 +24,7 @@ returns : tie.Need-returns
 returns c =
     let z = c .before .before .before .before .before .before .before in
     let k = c .before .before .granularity in
-    same-raised (z .args .format) (z .pre .0) (k .result) (z .args .x) (z .args .a) (z .args .b) _ (z .pre .1) (z .pre .2) (z .pre .3) (omega arith) (k .ensures) (c .before .raise .ensures) (c .raise2 .ensures)
+    same-raised (z .args .format) (z .pre .0) (k .result) (z .args .x) (z .args .a) (z .args .b) _ (z .pre .1) (z .pre .2) (z .pre .3) (omega arith) (k .ensures .0) (k .ensures .1) (c .before .raise .ensures) (c .raise2 .ensures)
 
 sub-granularity-3 : tie.Need-sub-granularity-3
 sub-granularity-3 c = search needs
@@ -42,10 +42,10 @@ returns-2 : tie.Need-returns-2
 returns-2 c =
     let z = c .before .before .before .before .before .before .before .before .before in
     let k = c .before .before .granularity2 in
-    same-lowered (z .args .format) (z .pre .0) (k .result) (z .args .x) (z .args .a) (z .args .b) _ (z .pre .1) (z .pre .2) (z .pre .3) (omega arith) (k .ensures) (c .before .lower .ensures) (c .lower2 .ensures)
+    same-lowered (z .args .format) (z .pre .0) (k .result) (z .args .x) (z .args .a) (z .args .b) _ (z .pre .1) (z .pre .2) (z .pre .3) (omega arith) (k .ensures .0) (k .ensures .1) (c .before .lower .ensures) (c .lower2 .ensures)
 
 returns-3 : tie.Need-returns-3
-returns-3 c = let z = c .before .before .before .before in same-self (z .pre .1) (z .pre .2)
+returns-3 c = let z = c .before .before .before .before in same-self (z .pre .0) (z .pre .1) (z .pre .2) (omega arith) (omega arith)
 
 pub clamp-spec : {M : Type 1} → statement M
 clamp-spec =

@@ -1,6 +1,5 @@
 -- `arith::narrow::narrow_ranges` meets its contract: two corners are the narrowing of x and a, and b's is over these. Assumes nothing.
 use borrow.Author.Needs.{needs}
-use Rattle.ladder.specs.Narrowing.{Spans}
 use Rattle.ladder.proofs.Solutions.{swap, swap-never}
 use Rattle.ladder.proofs.Corners.{corners-span}
 use Rattle.ladder.proofs.Assembly.{never-x, narrowed-b, assembled}
