@@ -17,5 +17,6 @@ pub mod Numbers
 pub mod Finishing
 pub mod Growing
 pub mod Lists
+pub mod Walks
 pub mod Loading
 pub mod Shared
