@@ -11,7 +11,7 @@ use Rattle.sheet.specs.Sheets.{filled}
 
 module _ {A B : Type 0} (f : A → B) (v : B) (d : A) where
   -- one more member of l, under f, in the place that comes next
-  pub filled-more :
+  filled-more :
       (places i : ℕ) (l : List A) → i < places → i < length l →
       set (filled places v (map f (take i l)) i) i (f (getD l i d)) ≡ filled places v (map f (take (i + 1) l)) (i + 1)
   filled-more places i l lt long =
@@ -25,6 +25,20 @@ module _ {A B : Type 0} (f : A → B) (v : B) (d : A) where
 
       last : map f (take i l) ++ (f (getD l i d) ∷ replicate (places - (i + 1)) v) ≡ (map f (take i l) ++ (f (getD l i d) ∷ [])) ++ replicate (places - (i + 1)) v
       last = sym (append-assoc (map f (take i l)) (f (getD l i d) ∷ []) (replicate (places - (i + 1)) v))
+
+-- ---- the loops that tidy: i of the first n members of l are in their places, under f
+module _ {A B : Type 0} (f : A → B) (v : B) (places n : ℕ) (l : List A) where
+  abbrev pub Filled : ℕ → List B → Type 0
+  Filled i out = (i ≤ n) × (out ≡ filled places v (map f (take i l)) i)
+
+  module _ (i : ℕ) (out : List B) (p : Filled i out) where
+    pub fills : (d : A) → i < n → i < places → i < length l → {b : B} → b ≡ f (getD l i d) → Filled (i + 1) (set out i b)
+    fills d lt fit long e = (omega arith, rw (p .1, e) (filled-more f v d places i l fit long))
+
+    pub all-filled : n ≤ i → out ≡ filled places v (map f (take n l)) n
+    all-filled le =
+        let e : i ≡ n = omega (arith, p .0) in
+        p .1 ∙ ap (λ (k : ℕ). filled places v (map f (take k l)) k) e
 
 pub map-same : {A : Type 0} (l : List A) → map (λ (a : A). a) l ≡ l
 map-same [] = refl

@@ -14,27 +14,34 @@ use Rattle.sheet.specs.declared.kept.Answer.{Answer}
 use Rattle.sheet.specs.declared.kept.Answer.the-variants.{Done}
 use Rattle.sheet.specs.Sheets.{refusedAt, andThen, require, faultAt, firstFault}
 
-module _ {A : Type 0} (fault : A → ℕ) (d : A) where
-  -- the first n members of l, from the member i on
-  module _ (l : List A) (n i : ℕ) where
-    more : i < n → n ≤ length l → firstFault fault i (drop i (take n l)) ≡ andThen (faultAt (fault (getD l i d)) i) (firstFault fault (i + 1) (drop (i + 1) (take n l)))
+-- ---- a test, member by member
+module _ {A : Type 0} (fault : A → ℕ) (l : List A) (n : ℕ) where
+  -- no member before i has a fault, so that the first fault of the first n is among those left
+  abbrev pub Passed : ℕ → Type 0
+  Passed i = (i ≤ n) × (firstFault fault i (drop i (take n l)) ≡ firstFault fault 0 (take n l))
+
+  module _ (i : ℕ) (p : Passed i) where
+    pub none-left : n ≤ i → Done ≡ firstFault fault 0 (take n l)
     unfolding firstFault
-    more lt long =
-        let h : i < length (take n l) = rw length-take (omega arith) in
-        rw (drop-cons (take n l) i d h, getD-take n l i d lt, add-one)
-
-    pub fault-here : i < n → n ≤ length l → (fault (getD l i d) ≡ 0 → ⊥) → firstFault fault i (drop i (take n l)) ≡ refusedAt (fault (getD l i d)) i
-    fault-here lt long ne = more lt long ∙ rw (ne-eqb _ _ ne)
-
-    pub no-fault-here : i < n → n ≤ length l → fault (getD l i d) ≡ 0 → firstFault fault i (drop i (take n l)) ≡ firstFault fault (i + 1) (drop (i + 1) (take n l))
-    no-fault-here lt long e = more lt long ∙ rw (eq-eqb _ _ e)
-
-    pub no-fault-left : n ≤ i → firstFault fault i (drop i (take n l)) ≡ Done
-    unfolding firstFault
-    no-fault-left le =
+    none-left le =
         let h : length (take n l) ≤ i = rw length-take (omega arith) in
-        rw (drop-of-length-le (take n l) h)
+        sym (rw (drop-of-length-le (take n l) h)) ∙ p .1
 
+    -- the member i is one of the first n, and m is its fault
+    module _ (d : A) (lt : i < n) (long : n ≤ length l) {m : ℕ} (e : m ≡ fault (getD l i d)) where
+      next : firstFault fault i (drop i (take n l)) ≡ andThen (faultAt (fault (getD l i d)) i) (firstFault fault (i + 1) (drop (i + 1) (take n l)))
+      unfolding firstFault
+      next =
+          let h : i < length (take n l) = rw length-take (omega arith) in
+          rw (drop-cons (take n l) i d h, getD-take n l i d lt, add-one)
+
+      pub found : (m ≡ 0 → ⊥) → {r : Answer} → r ≡ refusedAt m i → r ≡ firstFault fault 0 (take n l)
+      found ne a = a ∙ rw e (sym (next ∙ rw (ne-eqb _ _ (λ z. ne (e ∙ z)))) ∙ p .1)
+
+      pub passed : m ≡ 0 → Passed (i + 1)
+      passed z = (omega arith, sym (next ∙ rw (eq-eqb _ _ (sym e ∙ z))) ∙ p .1)
+
+module _ {A : Type 0} (fault : A → ℕ) (d : A) where
   -- nothing found: no member has a fault; and the other way round
   first-step : (m : ℕ) (rest : Answer) (i : ℕ) → andThen (faultAt m i) rest ≡ Done → (m ≡ 0) × (rest ≡ Done)
   first-step m rest i = go (eqb m 0) refl

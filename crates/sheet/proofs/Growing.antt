@@ -138,9 +138,6 @@ module _ (s : Sheet) (g : Good s) where
     sums = λ k l. rw (tidied-sum k l) (g .sums k l);
   }
 
-pub tidied-sound : (s : Sheet) → Sound s → Sound (tidied s)
-tidied-sound s h = sound (tidied s) (tidied-good s (good s h))
-
 -- ---- adding
 -- a member added after the first n: what holds of them and of it holds of all
 one-more : {A : Type 0} (P : A → Type 0) (l : List A) (n : ℕ) (v d : A) → n < length l → ((i : ℕ) → i < n → P (getD l i d)) → P v → (i : ℕ) → i < n + 1 → P (getD (set l n v) i d)

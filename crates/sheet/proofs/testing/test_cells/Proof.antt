@@ -2,17 +2,17 @@
 -- Assumes nothing.
 use native.Mathlib.Omega.{arith}
 use borrow.Author.Needs.{needs}
-use Rattle.sheet.proofs.Firsts.{fault-here, no-fault-here, no-fault-left}
-use Rattle.sheet.specs.Sheets.{noCell, firstFault}
+use Rattle.sheet.proofs.Firsts.{Passed, found, passed, none-left}
+use Rattle.sheet.specs.Sheets.{noCell}
 use Rattle.sheet.specs.Faults.{cellFault}
-use lib.ListN.{length, take, drop}
-use Prim.Native.Nat.{_-_, _≤_}
-use mathlib.Core.Path.{_≡_, refl, sym, _∙_}
+use lib.ListN.{length}
+use Prim.Native.Nat.{_-_}
+use mathlib.Core.Path.{_≡_, refl}
 use Rattle.sheet.proofs.testing.test_cells.Statement.{statement}
 use Rattle.sheet.proofs.testing.test_cells.Tie as tie
 
 abbrev Inv-loop : tie.InvT-loop
-Inv-loop width count cells i₀ i = (i ≤ count) × (firstFault (cellFault width) i (drop i (take count cells)) ≡ firstFault (cellFault width) 0 (take count cells))
+Inv-loop width count cells i₀ i = Passed (cellFault width) cells count i
 
 abbrev μ-loop : tie.MeasureT-loop
 μ-loop width count cells i₀ i = count - i
@@ -41,7 +41,7 @@ returns c =
     let l = c .before .before .before .before .before .loop in
     let r = c .before .before .cell-fault in
     let long : length (s .t3) ≡ 64 = long (c .before .before .before .before .before .before) in
-    c .refuse-at .ensures ∙ rw (r .ensures) (sym (fault-here (cellFault (s .width)) noCell (s .t3) (s .count) (l .i) (omega arith) (omega arith) (λ e. c .before .if1 .taken (r .ensures ∙ e))) ∙ l .inv .1)
+    found (cellFault (s .width)) (s .t3) (s .count) (l .i) (l .inv) noCell (omega arith) (omega arith) (r .ensures) (c .before .if1 .taken) (c .refuse-at .ensures)
 
 add-i : tie.Need-add-i Inv-loop μ-loop
 add-i c = omega arith
@@ -55,13 +55,13 @@ loop-again c =
     let l = c .before .before .before .before .loop in
     let r = c .before .cell-fault in
     let long : length (s .t3) ≡ 64 = long (c .before .before .before .before .before) in
-    (omega arith, sym (no-fault-here (cellFault (s .width)) noCell (s .t3) (s .count) (l .i) (omega arith) (omega arith) (sym (r .ensures) ∙ c .if1 .left)) ∙ l .inv .1)
+    passed (cellFault (s .width)) (s .t3) (s .count) (l .i) (l .inv) noCell (omega arith) (omega arith) (r .ensures) (c .if1 .left)
 
 returns-2 : tie.Need-returns-2 Inv-loop μ-loop
 returns-2 c =
     let s = c .before .before .args in
     let l = c .before .loop in
-    sym (no-fault-left (cellFault (s .width)) noCell (s .t3) (s .count) (l .i) (omega arith)) ∙ l .inv .1
+    none-left (cellFault (s .width)) (s .t3) (s .count) (l .i) (l .inv) (omega arith)
 
 pub test-cells-spec : {M : Type 1} → statement M
 test-cells-spec =

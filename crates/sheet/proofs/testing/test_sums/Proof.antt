@@ -2,17 +2,17 @@
 -- Assumes nothing.
 use native.Mathlib.Omega.{arith}
 use borrow.Author.Needs.{needs}
-use Rattle.sheet.proofs.Firsts.{fault-here, no-fault-here, no-fault-left}
-use Rattle.sheet.specs.Sheets.{noSum, firstFault}
+use Rattle.sheet.proofs.Firsts.{Passed, found, passed, none-left}
+use Rattle.sheet.specs.Sheets.{noSum}
 use Rattle.sheet.specs.Faults.{sumFault}
-use lib.ListN.{length, take, drop}
-use Prim.Native.Nat.{_-_, _≤_}
-use mathlib.Core.Path.{_≡_, refl, sym, _∙_}
+use lib.ListN.{length}
+use Prim.Native.Nat.{_-_}
+use mathlib.Core.Path.{_≡_, refl}
 use Rattle.sheet.proofs.testing.test_sums.Statement.{statement}
 use Rattle.sheet.proofs.testing.test_sums.Tie as tie
 
 abbrev Inv-loop : tie.InvT-loop
-Inv-loop cell-count count sums k₀ k = (k ≤ count) × (firstFault (sumFault cell-count) k (drop k (take count sums)) ≡ firstFault (sumFault cell-count) 0 (take count sums))
+Inv-loop cell-count count sums k₀ k = Passed (sumFault cell-count) sums count k
 
 abbrev μ-loop : tie.MeasureT-loop
 μ-loop cell-count count sums k₀ k = count - k
@@ -41,7 +41,7 @@ returns c =
     let l = c .before .before .before .before .before .loop in
     let r = c .before .before .sum-fault in
     let long : length (s .t3) ≡ 128 = long (c .before .before .before .before .before .before) in
-    c .refuse-at .ensures ∙ rw (r .ensures) (sym (fault-here (sumFault (s .cell-count)) noSum (s .t3) (s .count) (l .k) (omega arith) (omega arith) (λ e. c .before .if1 .taken (r .ensures ∙ e))) ∙ l .inv .1)
+    found (sumFault (s .cell-count)) (s .t3) (s .count) (l .k) (l .inv) noSum (omega arith) (omega arith) (r .ensures) (c .before .if1 .taken) (c .refuse-at .ensures)
 
 add-k : tie.Need-add-k Inv-loop μ-loop
 add-k c = omega arith
@@ -55,13 +55,13 @@ loop-again c =
     let l = c .before .before .before .before .loop in
     let r = c .before .sum-fault in
     let long : length (s .t3) ≡ 128 = long (c .before .before .before .before .before) in
-    (omega arith, sym (no-fault-here (sumFault (s .cell-count)) noSum (s .t3) (s .count) (l .k) (omega arith) (omega arith) (sym (r .ensures) ∙ c .if1 .left)) ∙ l .inv .1)
+    passed (sumFault (s .cell-count)) (s .t3) (s .count) (l .k) (l .inv) noSum (omega arith) (omega arith) (r .ensures) (c .if1 .left)
 
 returns-2 : tie.Need-returns-2 Inv-loop μ-loop
 returns-2 c =
     let s = c .before .before .args in
     let l = c .before .loop in
-    sym (no-fault-left (sumFault (s .cell-count)) noSum (s .t3) (s .count) (l .k) (omega arith)) ∙ l .inv .1
+    none-left (sumFault (s .cell-count)) (s .t3) (s .count) (l .k) (l .inv) (omega arith)
 
 pub test-sums-spec : {M : Type 1} → statement M
 test-sums-spec =

@@ -2,20 +2,19 @@
 -- Assumes nothing.
 use native.Mathlib.Omega.{arith}
 use borrow.Author.Needs.{needs}
-use Rattle.sheet.proofs.Filling.{filled-more}
+use Rattle.sheet.proofs.Filling.{Filled, fills, all-filled}
 use Rattle.sheet.proofs.Firsts.{faultless-at}
 use Rattle.sheet.specs.Cells.{canonicalCell}
-use Rattle.sheet.specs.Sheets.{noCell, filled}
+use Rattle.sheet.specs.Sheets.{noCell}
 use Rattle.sheet.specs.Faults.{cellFault}
-use lib.ListN.{length, take}
-use mathlib.Core.List.{map}
-use Prim.Native.Nat.{ℕ, _-_, _≤_}
-use mathlib.Core.Path.{_≡_, refl, ap, _∙_}
+use lib.ListN.{length}
+use Prim.Native.Nat.{_-_}
+use mathlib.Core.Path.{_≡_, refl}
 use Rattle.sheet.proofs.tidying.tidy_cells.Statement.{statement}
 use Rattle.sheet.proofs.tidying.tidy_cells.Tie as tie
 
 abbrev Inv-loop : tie.InvT-loop
-Inv-loop width count cells out₀ i₀ out i = (i ≤ count) × (out ≡ filled 64 noCell (map (canonicalCell width) (take i cells)) i)
+Inv-loop width count cells out₀ i₀ out i = Filled (canonicalCell width) noCell 64 count cells i out
 
 abbrev μ-loop : tie.MeasureT-loop
 μ-loop width count cells out₀ i₀ out i = count - i
@@ -55,14 +54,13 @@ loop-again c =
     let s = c .before .before .before .before .args in
     let l = c .before .before .before .loop in
     let n = long (c .before .before .before .before) in
-    (omega arith, rw (l .inv .1, c .write-cell .ensures) (filled-more (canonicalCell (s .width)) noCell noCell 64 (l .i) (s .t3) (omega arith) (omega arith)))
+    fills (canonicalCell (s .width)) noCell 64 (s .count) (s .t3) (l .i) (l .out) (l .inv) noCell (omega arith) (omega arith) (omega arith) (c .write-cell .ensures)
 
 returns : tie.Need-returns Inv-loop μ-loop
 returns c =
     let s = c .before .before .args in
     let l = c .before .loop in
-    let e : l .i ≡ s .count = omega arith in
-    l .inv .1 ∙ ap (λ (n : ℕ). filled 64 noCell (map (canonicalCell (s .width)) (take n (s .t3))) n) e
+    all-filled (canonicalCell (s .width)) noCell 64 (s .count) (s .t3) (l .i) (l .out) (l .inv) (omega arith)
 
 pub tidy-cells-spec : {M : Type 1} → statement M
 tidy-cells-spec =

@@ -2,18 +2,18 @@
 -- Assumes nothing.
 use native.Mathlib.Omega.{arith}
 use borrow.Author.Needs.{needs}
-use Rattle.sheet.proofs.Filling.{filled-more, map-same}
+use Rattle.sheet.proofs.Filling.{Filled, fills, all-filled, map-same}
 use Rattle.sheet.specs.Sheets.{noSum, filled}
 use Rattle.sheet.specs.declared.kept.Record.{Record}
 use lib.ListN.{length, take}
-use mathlib.Core.List.{List, map}
-use Prim.Native.Nat.{ℕ, _-_, _≤_}
+use mathlib.Core.List.{List}
+use Prim.Native.Nat.{_-_}
 use mathlib.Core.Path.{_≡_, refl, ap, _∙_}
 use Rattle.sheet.proofs.tidying.tidy_sums.Statement.{statement}
 use Rattle.sheet.proofs.tidying.tidy_sums.Tie as tie
 
 abbrev Inv-loop : tie.InvT-loop
-Inv-loop count sums out₀ k₀ out k = (k ≤ count) × (out ≡ filled 128 noSum (map (λ (r : Record). r) (take k sums)) k)
+Inv-loop count sums out₀ k₀ out k = Filled (λ (r : Record). r) noSum 128 count sums k out
 
 abbrev μ-loop : tie.MeasureT-loop
 μ-loop count sums out₀ k₀ out k = count - k
@@ -47,14 +47,13 @@ loop-again c =
     let s = c .before .before .before .args in
     let l = c .before .before .loop in
     let n = long (c .before .before .before) in
-    (omega arith, rw (l .inv .1) (filled-more (λ (r : Record). r) noSum noSum 128 (l .k) (s .t2) (omega arith) (omega arith)))
+    fills (λ (r : Record). r) noSum 128 (s .count) (s .t2) (l .k) (l .out) (l .inv) noSum (omega arith) (omega arith) (omega arith) refl
 
 returns : tie.Need-returns Inv-loop μ-loop
 returns c =
     let s = c .before .before .args in
     let l = c .before .loop in
-    let e : l .k ≡ s .count = omega arith in
-    l .inv .1 ∙ ap (λ (n : ℕ). filled 128 noSum (map (λ (r : Record). r) (take n (s .t2))) n) e ∙ ap (λ (t : List Record). filled 128 noSum t (s .count)) (map-same (take (s .count) (s .t2)))
+    all-filled (λ (r : Record). r) noSum 128 (s .count) (s .t2) (l .k) (l .out) (l .inv) (omega arith) ∙ ap (λ (t : List Record). filled 128 noSum t (s .count)) (map-same (take (s .count) (s .t2)))
 
 pub tidy-sums-spec : {M : Type 1} → statement M
 tidy-sums-spec =
