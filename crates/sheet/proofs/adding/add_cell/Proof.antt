@@ -35,42 +35,12 @@ free c = admitted _ _ _ (sym (answered (c .before .before)) ∙ c .enum-told2 .g
 room : (c : tie.After-enum-told2) → c .before .before .before .before .before .args .sheet .«cell_count» < 64
 room c = ltb-true _ _ (free c .roomy)
 
-cell-fault-requires : tie.Need-cell-fault-requires
-cell-fault-requires c κs = tt
-
-test-sheet-requires : tie.Need-test-sheet-requires
-test-sheet-requires c κs = tt
-
-test-addition-requires : tie.Need-test-addition-requires
-test-addition-requires c κs = tt
-
-enum-told : tie.Need-enum-told
-enum-told c = c .match .keys1
-
 returns : tie.Need-returns
 unfolding addCellOf
 returns c =
     let g = c .before .before .before .before .before .args in
     let s = g .sheet in
     add-cell-keeps s (g .cell) (add-kept s (withCell (tidied s) (canonicalCell (s .width) (g .cell))) _ _ (answered (c .before .before)) _ (c .enum-told .given .1))
-
-enum-told-2 : tie.Need-enum-told-2
-enum-told-2 c = c .match .keys2
-
-tidy-requires : tie.Need-tidy-requires
-tidy-requires c κs = free c .tests
-
-write-cell-requires : tie.Need-write-cell-requires
-write-cell-requires c κs = free (c .before) .faultless
-
-mul-t12 : tie.Need-mul-t12
-mul-t12 c = let h = room (c .before .before) in omega arith
-
-element-set-from-next : tie.Need-element-set-from-next
-element-set-from-next c = let h = room (c .before .before) in omega arith
-
-add-next : tie.Need-add-next
-add-next c = let h = room (c .before .before) in omega arith
 
 returns-2 : tie.Need-returns-2
 unfolding addCellOf tidied
@@ -83,15 +53,8 @@ pub add-cell-spec : {M : Type 1} → statement M
 add-cell-spec =
     tie.close
     (tie.spec
-    cell-fault-requires
-    test-sheet-requires
-    test-addition-requires
-    enum-told
-    returns
-    enum-told-2
-    tidy-requires
-    write-cell-requires
-    mul-t12
-    element-set-from-next
-    add-next
-    returns-2)
+    (λ c κs. tt) (λ c κs. tt) (λ c κs. tt) (λ c. c .match .keys1) returns (λ c. c .match .keys2)
+    (λ c κs. free c .tests) (λ c κs. free (c .before) .faultless)
+    (λ c. let h = room (c .before .before) in omega arith)
+    (λ c. let h = room (c .before .before) in omega arith)
+    (λ c. let h = room (c .before .before) in omega arith) returns-2)

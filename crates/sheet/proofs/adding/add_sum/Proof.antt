@@ -34,39 +34,12 @@ free c = admitted _ _ _ (sym (answered (c .before .before)) ∙ c .enum-told2 .g
 room : (c : tie.After-enum-told2) → c .before .before .before .before .before .args .sheet .«sum_count» < 128
 room c = ltb-true _ _ (free c .roomy)
 
-sum-fault-requires : tie.Need-sum-fault-requires
-sum-fault-requires c κs = tt
-
-test-sheet-requires : tie.Need-test-sheet-requires
-test-sheet-requires c κs = tt
-
-test-addition-requires : tie.Need-test-addition-requires
-test-addition-requires c κs = tt
-
-enum-told : tie.Need-enum-told
-enum-told c = c .match .keys1
-
 returns : tie.Need-returns
 unfolding addSumOf
 returns c =
     let g = c .before .before .before .before .before .args in
     let s = g .sheet in
     add-sum-keeps s (g .sum) (add-kept s (withSum (tidied s) (g .sum)) _ _ (answered (c .before .before)) _ (c .enum-told .given .1))
-
-enum-told-2 : tie.Need-enum-told-2
-enum-told-2 c = c .match .keys2
-
-tidy-requires : tie.Need-tidy-requires
-tidy-requires c κs = free c .tests
-
-mul-sum : tie.Need-mul-sum
-mul-sum c = let h = room (c .before) in omega arith
-
-element-set-from-sum : tie.Need-element-set-from-sum
-element-set-from-sum c = let h = room (c .before) in omega arith
-
-add-next : tie.Need-add-next
-add-next c = let h = room (c .before) in omega arith
 
 returns-2 : tie.Need-returns-2
 unfolding addSumOf tidied
@@ -79,14 +52,7 @@ pub add-sum-spec : {M : Type 1} → statement M
 add-sum-spec =
     tie.close
     (tie.spec
-    sum-fault-requires
-    test-sheet-requires
-    test-addition-requires
-    enum-told
-    returns
-    enum-told-2
-    tidy-requires
-    mul-sum
-    element-set-from-sum
-    add-next
+    (λ c κs. tt) (λ c κs. tt) (λ c κs. tt) (λ c. c .match .keys1) returns (λ c. c .match .keys2)
+    (λ c κs. free c .tests) (λ c. let h = room (c .before) in omega arith)
+    (λ c. let h = room (c .before) in omega arith) (λ c. let h = room (c .before) in omega arith)
     returns-2)

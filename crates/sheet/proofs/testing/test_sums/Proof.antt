@@ -20,21 +20,6 @@ abbrev μ-loop : tie.MeasureT-loop
 long : (c : tie.Start Inv-loop μ-loop) → length (c .args .t3) ≡ 128
 long c = search needs
 
-loop-holds : tie.Need-loop-holds Inv-loop μ-loop
-loop-holds c = (omega arith, refl)
-
-mul-sum-fault : tie.Need-mul-sum-fault Inv-loop μ-loop
-mul-sum-fault c = omega arith
-
-array-copy-out-sum-fault : tie.Need-array-copy-out-sum-fault Inv-loop μ-loop
-array-copy-out-sum-fault c = omega arith
-
-sum-fault-requires : tie.Need-sum-fault-requires Inv-loop μ-loop
-sum-fault-requires c κs = tt
-
-refuse-at-requires : tie.Need-refuse-at-requires Inv-loop μ-loop
-refuse-at-requires c κs = tt
-
 returns : tie.Need-returns Inv-loop μ-loop
 returns c =
     let s = c .before .before .before .before .before .before .args in
@@ -42,12 +27,6 @@ returns c =
     let r = c .before .before .sum-fault in
     let long : length (s .t3) ≡ 128 = long (c .before .before .before .before .before .before) in
     found (sumFault (s .cell-count)) (s .t3) (s .count) (l .k) (l .inv) noSum (omega arith) (omega arith) (r .ensures) (c .before .if1 .taken) (c .refuse-at .ensures)
-
-add-k : tie.Need-add-k Inv-loop μ-loop
-add-k c = omega arith
-
-loop-less : tie.Need-loop-less Inv-loop μ-loop
-loop-less c = omega arith
 
 loop-again : tie.Need-loop-again Inv-loop μ-loop
 loop-again c =
@@ -67,15 +46,5 @@ pub test-sums-spec : {M : Type 1} → statement M
 test-sums-spec =
     tie.close
     (tie.spec
-    Inv-loop
-    μ-loop
-    loop-holds
-    mul-sum-fault
-    array-copy-out-sum-fault
-    sum-fault-requires
-    refuse-at-requires
-    returns
-    add-k
-    loop-less
-    loop-again
-    returns-2)
+    Inv-loop μ-loop (λ c. (omega arith, refl)) (λ c. omega arith) (λ c. omega arith) (λ c κs. tt)
+    (λ c κs. tt) returns (λ c. omega arith) (λ c. omega arith) loop-again returns-2)

@@ -22,32 +22,11 @@ abbrev μ-loop : tie.MeasureT-loop
 long : (c : tie.Start Inv-loop μ-loop) → length (c .args .t3) ≡ 64
 long c = search needs
 
-loop-holds : tie.Need-loop-holds Inv-loop μ-loop
-loop-holds c = (omega arith, refl)
-
-mul-write-cell : tie.Need-mul-write-cell Inv-loop μ-loop
-mul-write-cell c = omega arith
-
-array-copy-out-write-cell : tie.Need-array-copy-out-write-cell Inv-loop μ-loop
-array-copy-out-write-cell c = omega arith
-
 write-cell-requires : tie.Need-write-cell-requires Inv-loop μ-loop
 write-cell-requires c κs =
     let s = c .before .before .before .args in
     let l = long (c .before .before .before) in
     faultless-at (cellFault (s .width)) noCell (s .t3) (s .count) (c .before .before .loop .i) (omega arith) (c .before .before .before .pre .1) (omega arith)
-
-mul-out : tie.Need-mul-out Inv-loop μ-loop
-mul-out c = omega arith
-
-array-set-from-out : tie.Need-array-set-from-out Inv-loop μ-loop
-array-set-from-out c = omega arith
-
-add-i : tie.Need-add-i Inv-loop μ-loop
-add-i c = omega arith
-
-loop-less : tie.Need-loop-less Inv-loop μ-loop
-loop-less c = omega arith
 
 loop-again : tie.Need-loop-again Inv-loop μ-loop
 loop-again c =
@@ -66,15 +45,5 @@ pub tidy-cells-spec : {M : Type 1} → statement M
 tidy-cells-spec =
     tie.close
     (tie.spec
-    Inv-loop
-    μ-loop
-    loop-holds
-    mul-write-cell
-    array-copy-out-write-cell
-    write-cell-requires
-    mul-out
-    array-set-from-out
-    add-i
-    loop-less
-    loop-again
-    returns)
+    Inv-loop μ-loop (λ c. (omega arith, refl)) (λ c. omega arith) (λ c. omega arith) write-cell-requires
+    (λ c. omega arith) (λ c. omega arith) (λ c. omega arith) (λ c. omega arith) loop-again returns)
