@@ -1,18 +1,14 @@
--- Laws of digits that are stored from the back, and of their number. Rests on specs/Digits of `reader` and Storing.
+-- Laws of digits that are stored from the back, and of their number. Rests on specs/Digits and Numerals of `reader`, and on Storing.
 use mathlib.Core.Path.{_≡_, refl, _∙_}
 use mathlib.Core.List.{List}
 use Prim.Native.Nat.{ℕ, zero, suc, _+_, _-_, _/_, _%_, _≤_, _<_}
 use native.Mathlib.Omega.{arith}
-use lib.ListN.{length, set, length-append}
+use lib.ListN.{set}
 use lib.Seq.{sets}
 use borrow.Author.Tests.{lt-ltb, le-ltb}
 use Rattle.reader.specs.Digits.{digitsOf, digitByte, digitCount}
+use Rattle.reader.proofs.Numerals.{digits-length}
 use Rattle.listing.proofs.Storing.{sets-last}
-
-pub digits-length : (base k n : ℕ) → length (digitsOf base k n) ≡ k
-unfolding digitsOf
-digits-length base zero n = refl
-digits-length base (suc k) n = simp (length-append, digits-length base k (n / base)) (omega arith)
 
 digit-back : (base k n at : ℕ) (l : List ℕ) → sets l at (digitsOf base (suc k) n) ≡ sets (set l (at + k) (digitByte (n % base))) at (digitsOf base k (n / base))
 unfolding digitsOf

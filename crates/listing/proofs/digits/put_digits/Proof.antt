@@ -1,5 +1,6 @@
 -- `listing::digits::put_digits` meets its contract: the digits not yet stored are those of the number left. Assumes nothing.
-use Rattle.listing.proofs.Counting.{digit-on, digit-end, digits-length}
+use Rattle.reader.proofs.Numerals.{digits-length}
+use Rattle.listing.proofs.Counting.{digit-on, digit-end}
 use native.Mathlib.Nat.{mod-lt}
 use Rattle.reader.specs.Digits.{digitsOf}
 use lib.Seq.{sets}
