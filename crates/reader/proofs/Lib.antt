@@ -11,6 +11,7 @@ pub mod Walking
 pub mod RoundTrip
 pub mod Tested
 pub mod Staying
+pub mod Stepping
 pub mod Replies
 pub mod Placing
 pub mod Held

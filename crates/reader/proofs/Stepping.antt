@@ -1,0 +1,24 @@
+-- The tests of a record as the code takes them: its fault first, then whether there is place for one more. Assumes nothing.
+use mathlib.Core.Path.{_≡_}
+use mathlib.Core.Bool.{cond}
+use Prim.Native.Nat.{ℕ, _≤_, _<_}
+use lib.Dec.{eqb, leb}
+use borrow.Author.Tests.{eq-eqb, ne-eqb, le-leb, lt-leb}
+use Rattle.reader.specs.Steps.{refusedAt}
+use Rattle.reader.specs.declared.cursor.Step.{Step}
+
+-- n is the fault that was found
+module _ {n fault : ℕ} (f : n ≡ fault) (line : ℕ) (rest : Step) {r : Step} where
+  pub faulty : (n ≡ 0 → ⊥) → r ≡ refusedAt n line → r ≡ cond (eqb fault 0) rest (refusedAt fault line)
+  faulty h e = rw (← f, ne-eqb n 0 h) e
+
+  pub faultless : n ≡ 0 → r ≡ rest → r ≡ cond (eqb fault 0) rest (refusedAt fault line)
+  faultless h e = rw (← f, eq-eqb n 0 h) e
+
+-- so many are the most, and so many there are
+module _ {most count : ℕ} (line : ℕ) (rest : Step) where
+  pub full : {r : Step} → most ≤ count → r ≡ refusedAt 10 line → r ≡ cond (leb most count) (refusedAt 10 line) rest
+  full h e = rw (le-leb most count h) e
+
+  pub room : count < most → rest ≡ cond (leb most count) (refusedAt 10 line) rest
+  room h = rw (lt-leb most count h)
