@@ -2,6 +2,7 @@ pub mod Refusing
 pub mod Shifting
 pub mod Formats
 pub mod Intervals
+pub mod Images
 pub mod Decoding
 pub mod Roundings
 pub mod Jamming
@@ -18,3 +19,4 @@ pub mod Adding
 pub mod Placing
 pub mod Valid
 pub mod Replies
+pub mod Widths

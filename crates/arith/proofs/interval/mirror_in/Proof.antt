@@ -1,63 +1,40 @@
 -- `arith::interval::mirror_in` meets its contract. Assumes nothing.
-use mathlib.Core.Path.{ap, _∙_}
-use borrow.Author.Needs.{needs}
-use Rattle.arith.specs.declared.interval.Image.the-variants as Image
-use Rattle.arith.specs.Intervals.{isOrdered, intervalOf, reflected, mirrorIn}
-use Rattle.arith.proofs.Refusing.{refused, passed, holds, fails}
+use Rattle.arith.specs.declared.interval.Image.the-variants.{Refused}
+use Rattle.arith.specs.Intervals.{reflected, mirrorIn}
+use Rattle.arith.proofs.Refusing.{refused, holds, fails}
 use Rattle.arith.proofs.Intervals.{range-ends, reflected-ends}
+use Rattle.arith.proofs.Images.{reversed, imaged}
 use Rattle.arith.proofs.interval.mirror_in.Statement.{statement}
 use Rattle.arith.proofs.interval.mirror_in.Tie as tie
 
-ends-finite-requires : tie.Need-ends-finite-requires
-ends-finite-requires c κs = search needs
-
-refuse-requires : tie.Need-refuse-requires
-refuse-requires c κs = tt
-
 returns : tie.Need-returns
 unfolding mirrorIn
-returns c =
-    let t = c .before in
-    refused Image.Refused 2 _ _ (c .refuse .ensures) (fails (t .before .ends-finite .ensures) (t .if1 .taken))
+returns c = let t = c .before in refused Refused 2 _ _ (c .refuse .ensures) (fails (t .before .ends-finite .ensures) (t .if1 .taken))
 
 range-of-requires : tie.Need-range-of-requires
 range-of-requires c κs = (c .before .before .pre, holds (c .before .ends-finite .ensures) (c .if1 .left))
-
-ordered-requires : tie.Need-ordered-requires
-ordered-requires c κs = tt
-
-refuse-requires-2 : tie.Need-refuse-requires-2
-refuse-requires-2 c κs = tt
 
 returns-2 : tie.Need-returns-2
 unfolding mirrorIn
 returns-2 c =
     let t = c .before in
-    let s1 = t .before .before .before in
-    passed Image.Refused 2 _ _ (holds (s1 .before .ends-finite .ensures) (s1 .if1 .left))
-    (refused Image.Refused 3 _ _ (c .refuse2 .ensures) (fails (t .before .ordered .ensures ∙ ap isOrdered (t .before .before .range-of .ensures)) (t .if2 .taken)))
+    let s = t .before .before .before in
+    reversed _ _ (s .before .ends-finite .ensures) (s .if1 .left) (t .before .before .range-of .ensures) (t .before .ordered .ensures) _ (t .if2 .taken) (c .refuse2 .ensures)
 
 reflect-requires : tie.Need-reflect-requires
 reflect-requires c κs =
-    let s1 = c .before .before .before in
-    (s1 .before .before .pre, range-ends _ _ _ (c .before .before .range-of .ensures) (holds (s1 .before .ends-finite .ensures) (s1 .if1 .left)))
+    let s = c .before .before .before in
+    (s .before .before .pre, range-ends _ _ _ (c .before .before .range-of .ensures) (holds (s .before .ends-finite .ensures) (s .if1 .left)))
 
 interval-of-requires : tie.Need-interval-of-requires
-interval-of-requires c κs =
-    let s2 = c .before in
-    let s1 = s2 .before .before .before in
-    (s1 .before .before .pre, reflected-ends _ _ _ (c .reflect .ensures) (range-ends _ _ _ (s2 .before .before .range-of .ensures) (holds (s1 .before .ends-finite .ensures) (s1 .if1 .left))))
+interval-of-requires c κs = let r = reflect-requires (c .before) κs in (r .0, reflected-ends _ _ _ (c .reflect .ensures) (r .1))
 
 returns-3 : tie.Need-returns-3
 unfolding mirrorIn
 returns-3 c =
-    let s2 = c .before .before in
-    let s1 = s2 .before .before .before in
-    passed Image.Refused 2 _ _ (holds (s1 .before .ends-finite .ensures) (s1 .if1 .left))
-    (passed Image.Refused 3 _ _ (holds (s2 .before .ordered .ensures ∙ ap isOrdered (s2 .before .before .range-of .ensures)) (s2 .if2 .left))
-    (
-    let F = s1 .before .before .args .format in
-    ap Image.Is (c .interval-of .ensures ∙ ap (intervalOf F) (c .before .reflect .ensures ∙ ap (reflected F) (s2 .before .before .range-of .ensures)))))
+    let t = c .before .before in
+    let s = t .before .before .before in
+    imaged _ _ (s .before .ends-finite .ensures) (s .if1 .left) (t .before .before .range-of .ensures) (t .before .ordered .ensures) (reflected (s .before .before .args .format)) (t .if2 .left) (c .before .reflect .ensures) (c .interval-of .ensures)
 
 pub mirror-in-spec : {M : Type 1} → statement M
-mirror-in-spec = tie.close (tie.spec ends-finite-requires refuse-requires returns range-of-requires ordered-requires refuse-requires-2 returns-2 reflect-requires interval-of-requires returns-3)
+mirror-in-spec = tie.close (tie.spec (λ c κs. c .pre) (λ c κs. tt) returns range-of-requires (λ c κs. tt) (λ c κs. tt) returns-2 reflect-requires interval-of-requires returns-3)

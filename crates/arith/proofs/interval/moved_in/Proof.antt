@@ -1,6 +1,5 @@
 -- `arith::interval::moved_in` meets its contract. Assumes nothing.
 use mathlib.Core.Path.{ap}
-use borrow.Author.Needs.{needs}
 use Rattle.arith.specs.declared.interval.Image.the-variants as Image
 use Rattle.arith.specs.Intervals.{movedIn}
 use Rattle.arith.proofs.Refusing.{refused, passed, holds, fails}
@@ -8,23 +7,11 @@ use Rattle.arith.proofs.Formats.{finite-ordinal}
 use Rattle.arith.proofs.interval.moved_in.Statement.{statement}
 use Rattle.arith.proofs.interval.moved_in.Tie as tie
 
-finite-ordinal-requires : tie.Need-finite-ordinal-requires
-finite-ordinal-requires c κs = search needs
-
-refuse-requires : tie.Need-refuse-requires
-refuse-requires c κs = tt
-
 returns : tie.Need-returns
 unfolding movedIn
 returns c =
     let t = c .before in
     refused Image.Refused 9 _ _ (c .refuse .ensures) (fails (t .before .finite-ordinal .ensures) (t .if1 .taken))
-
-finite-ordinal-requires-2 : tie.Need-finite-ordinal-requires-2
-finite-ordinal-requires-2 c κs = search needs
-
-refuse-requires-2 : tie.Need-refuse-requires-2
-refuse-requires-2 c κs = tt
 
 returns-2 : tie.Need-returns-2
 unfolding movedIn
@@ -55,4 +42,4 @@ returns-3 c =
     (ap Image.Is (c .interval-of .ensures)))
 
 pub moved-in-spec : {M : Type 1} → statement M
-moved-in-spec = tie.close (tie.spec finite-ordinal-requires refuse-requires returns finite-ordinal-requires-2 refuse-requires-2 returns-2 interval-of-requires returns-3)
+moved-in-spec = tie.close (tie.spec (λ c κs. c .pre) (λ c κs. tt) returns (λ c κs. c .before .before .pre) (λ c κs. tt) returns-2 interval-of-requires returns-3)

@@ -1,6 +1,5 @@
 -- `arith::sum::add_in` meets its contract. Assumes nothing.
 use mathlib.Core.Path.{sym, ap₂, _∙_, subst}
-use borrow.Author.Needs.{needs}
 use Rattle.ladder.proofs.Ordinals.{ordinal-finite}
 use Rattle.arith.specs.Formats.{Finite}
 use Rattle.arith.specs.declared.sum.Sum.the-variants as Sum
@@ -10,23 +9,11 @@ use Rattle.arith.proofs.Formats.{finite-fits}
 use Rattle.arith.proofs.sum.add_in.Statement.{statement}
 use Rattle.arith.proofs.sum.add_in.Tie as tie
 
-finite-requires : tie.Need-finite-requires
-finite-requires c κs = search needs
-
-refuse-requires : tie.Need-refuse-requires
-refuse-requires c κs = tt
-
 returns : tie.Need-returns
 unfolding addIn
 returns c =
     let t = c .before in
     refused Sum.Refused 2 _ _ (c .refuse .ensures) (fails (t .before .finite .ensures) (t .if1 .taken))
-
-finite-requires-2 : tie.Need-finite-requires-2
-finite-requires-2 c κs = search needs
-
-refuse-requires-2 : tie.Need-refuse-requires-2
-refuse-requires-2 c κs = tt
 
 returns-2 : tie.Need-returns-2
 unfolding addIn
@@ -68,4 +55,4 @@ returns-3 c =
     (c .add-finite .ensures ∙ ap₂ (sumAnswer (s1 .before .before .args .format)) (c .before .before .ordinal-of .ensures) (c .before .ordinal-of2 .ensures)))
 
 pub add-in-spec : {M : Type 1} → statement M
-add-in-spec = tie.close (tie.spec finite-requires refuse-requires returns finite-requires-2 refuse-requires-2 returns-2 ordinal-of-requires ordinal-of-requires-2 add-finite-requires returns-3)
+add-in-spec = tie.close (tie.spec (λ c κs. c .pre) (λ c κs. tt) returns (λ c κs. c .before .before .pre) (λ c κs. tt) returns-2 ordinal-of-requires ordinal-of-requires-2 add-finite-requires returns-3)
