@@ -1,5 +1,5 @@
 -- What the functions below the narrowing answer: each answer's enum goes over into what `ladder` says of it. Assumes nothing.
-use Prim.Native.Nat.{ℕ}
+use Prim.Native.Nat.{ℕ, _-_, _<_}
 use Rattle.ladder.specs.Solution.{Interval, Solution}
 use Rattle.ladder.specs.Narrowing as N
 use Rattle.ladder.specs.Narrowing.{Narrowing, none, ends}
@@ -42,6 +42,14 @@ Attains F a b R = S.Attains (F .fraction) (F .exponent) a b (span R)
 -- y inside R has a sum with a of at most b
 abbrev pub Stays : Format → ℕ → ℕ → Range → ℕ → Type 0
 Stays F a b R = S.Stays (F .fraction) (F .exponent) a b (span R)
+
+-- t is no more than the least sum with a that is at least b, if one inside R has such a sum
+abbrev pub AtMost : Format → ℕ → Range → ℕ → ℕ → Type 0
+AtMost F b R a t = S.AtMost (F .fraction) (F .exponent) b (span R) a t
+
+-- the same with the a before the least inside A that reaches b with X's low end
+abbrev pub AtMostBefore : Format → ℕ → Range → Range → ℕ → Type 0
+AtMostBefore F b X A t = (z : ℕ) → S.Least (Attains F (X .low) b A) z → A .low < z → AtMost F b X (z - 1) t
 
 -- x, a and b are a triple
 abbrev pub Triple : Format → Range → Range → Range → ℕ → ℕ → ℕ → Type 0

@@ -1,11 +1,10 @@
-// From the least to the greatest b in a triple. The greatest is the mirror image of the least of the mirrored ranges.
-ghost use Prim.Native.Nat.{_≤_, _<_};
-ghost use Rattle.arith.specs.Formats.{Sound};
+// From the least to the greatest b in a triple, without a search: b's low end where it stands in a triple, else the least of a few sums. The greatest is the mirror image of the least of the mirrored ranges.
+ghost use Prim.Native.Nat.{_≤_};
+ghost use Rattle.arith.specs.Formats.{Sound, sum};
 ghost use Rattle.arith.specs.Intervals.{Ends};
-ghost use Rattle.arith.specs.Searches.{LeastOf, Spans, HasB};
+ghost use Rattle.arith.specs.Searches.{LeastOf, Spans, Triple, HasB, AtMost, AtMostBefore};
 use crate::corner::Corner;
 use crate::corner::search_corner;
-use crate::exact::distance_from_zero;
 use crate::format::Format;
 use crate::hardware::add_ordinals;
 use crate::operand::Found;
@@ -16,87 +15,73 @@ use crate::range::less;
 use crate::range::mirror_of;
 use crate::range::reflect;
 
-// Up to where to ask next, from low up to, and without, high: on the first turn at low alone where much is left; on the first two else for all; then for the lower half.
-fn question(low: u64, high: u64, first: bool, near: bool) -> u64
-    requires { ⌜ low < high ⌝ }
-    ensures { λ r. ⌜ (low ≤ r) × (r < high) ⌝ }
+// A b that stands in a triple: the one known, or the least sum with c that is not below b, if that is less.
+fn lesser(format: Format, c: u64, x: Range, a: Range, b: Range, known: u64) -> u64
+    requires { ⌜ (Sound format) × (Ends format x) × (Ends format a) × (Ends format b) × (a .low ≤ c) × (c ≤ a .high) × (HasB format x a b known) ⌝ }
+    ensures { λ r. ⌜ (HasB format x a b r) × (r ≤ known) × (AtMost format (b .low) x c r) ⌝ }
 {
-    if first {
-        if 16 < high - low {
-            return low;
-        }
-    }
-    if near {
-        return high - 1;
-    }
-    low + (high - low) / 2
-}
-
-// The least b in a triple by search, where b's high end stands in one: what is below is asked for until nothing is.
-fn search_b(format: Format, x: Range, a: Range, b: Range) -> u64
-    requires { ⌜ (Sound format) × (Ends format x) × (Ends format a) × (Ends format b) × (HasB format x a b (b .high)) ⌝ }
-    ensures { λ r. ⌜ LeastOf (HasB format x a b) (Found.At r) ⌝ }
-{
-    let mut low = b.low;
-    let mut high = b.high;
-    let mut first = true;
-    let mut near = true;
-    while low < high {
-        let middle = question(low, high, first, near);
-        near = first;
-        first = false;
-        match search_corner(format, x, a, Range { low, high: middle }) {
-            Corner::At { x: _, a: _, b: s } => high = s,
-            Corner::Absent => low = middle + 1,
-        }
-    }
-    high
-}
-
-// A b that stands in a triple: the one known, or the least sum with x's low end that is not below b, if that is less.
-fn nearer(format: Format, x: Range, a: Range, b: Range, known: u64) -> u64
-    requires { ⌜ (Sound format) × (Ends format x) × (Ends format a) × (Ends format b) × (HasB format x a b known) ⌝ }
-    ensures { λ r. ⌜ HasB format x a b r ⌝ }
-{
-    match least_operand(format, x.low, b.low, a) {
-        Found::At(c) => less(known, add_ordinals(format, x.low, c)),
+    match least_operand(format, c, b.low, x) {
+        Found::At(y) => less(known, add_ordinals(format, y, c)),
         Found::Absent => known,
     }
 }
 
-// The same with the operand held that is farther from zero: the other moves the sum in smaller steps.
-fn nearest(format: Format, x: Range, a: Range, b: Range, known: u64) -> u64
+// The same with the a before the least that reaches b with x's low end.
+fn lesser_before(format: Format, x: Range, a: Range, b: Range, known: u64) -> u64
     requires { ⌜ (Sound format) × (Ends format x) × (Ends format a) × (Ends format b) × (HasB format x a b known) ⌝ }
-    ensures { λ r. ⌜ HasB format x a b r ⌝ }
+    ensures { λ r. ⌜ (HasB format x a b r) × (r ≤ known) × (AtMostBefore format (b .low) x a r) ⌝ }
 {
-    if distance_from_zero(format, a.low) < distance_from_zero(format, x.low) {
-        return nearer(format, x, a, b, known);
+    let Found::At(z) = least_operand(format, x.low, b.low, a) else {
+        return known;
+    };
+    if z <= a.low {
+        return known;
     }
-    nearer(format, a, x, b, known)
+    lesser(format, z - 1, x, a, b, known)
 }
 
-// The least b in a triple, where one that stands in a triple is known: the sum of the low ends, unless that is below b.
+// The least b in a triple, where the one known is above b's low end and no more than the least sums with the low ends.
+fn least_above(format: Format, x: Range, a: Range, b: Range, known: u64) -> u64
+    requires { ⌜ (Sound format) × (Ends format x) × (Ends format a) × (Ends format b) × (b .low ≤ sum format (x .low) (a .high)) × (b .low ≤ sum format (x .high) (a .low)) × (HasB format x a b known) × (AtMost format (b .low) x (a .low) known) × (AtMost format (b .low) a (x .low) known) ⌝ }
+    ensures { λ r. ⌜ LeastOf (HasB format x a b) (Found.At r) ⌝ }
+{
+    let low = Range {
+        low: b.low,
+        high: b.low,
+    };
+    if let Corner::At { x: _, a: _, b: s } = search_corner(format, x, a, low) {
+        return s;
+    }
+    if format.sign <= b.low {
+        return known;
+    }
+    let s = lesser_before(format, x, a, b, known);
+    lesser_before(format, a, x, b, s)
+}
+
+// The least b in a triple: the sum of the low ends, unless that is below b.
 fn least_b(format: Format, x: Range, a: Range, b: Range, known: u64) -> u64
-    requires { ⌜ (Sound format) × (Ends format x) × (Ends format a) × (Ends format b) × (HasB format x a b known) ⌝ }
+    requires { ⌜ (Sound format) × (Ends format x) × (Ends format a) × (Ends format b) × (b .low ≤ sum format (x .low) (a .high)) × (b .low ≤ sum format (x .high) (a .low)) × (HasB format x a b known) ⌝ }
     ensures { λ r. ⌜ LeastOf (HasB format x a b) (Found.At r) ⌝ }
 {
     let least = add_ordinals(format, x.low, a.low);
     if b.low <= least {
         return least;
     }
-    if known <= b.low {
-        return known;
+    let s = lesser(format, x.low, a, x, b, known);
+    if s <= b.low {
+        return s;
     }
-    let capped = Range {
-        low: b.low,
-        high: nearest(format, x, a, b, known),
-    };
-    search_b(format, x, a, capped)
+    let t = lesser(format, a.low, x, a, b, s);
+    if t <= b.low {
+        return t;
+    }
+    least_above(format, x, a, b, t)
 }
 
-// The b in a triple, where s and t stand in one: the search for either end starts at the nearer of them.
+// The b in a triple, where the ends crosswise make triples, with s and with t.
 pub(crate) fn extent_b(format: Format, x: Range, a: Range, b: Range, s: u64, t: u64) -> Range
-    requires { ⌜ (Sound format) × (Ends format x) × (Ends format a) × (Ends format b) × (HasB format x a b s) × (HasB format x a b t) ⌝ }
+    requires { ⌜ (Sound format) × (Ends format x) × (Ends format a) × (Ends format b) × (Triple format x a b (x .low) (a .high) s) × (Triple format x a b (x .high) (a .low) t) ⌝ }
     ensures { λ r. ⌜ Spans (HasB format x a b) r ⌝ }
 {
     let low = least_b(format, x, a, b, less(s, t));

@@ -1,7 +1,7 @@
 -- The narrowing from its three parts: that of x, that of a as x with the operands swapped, and that of b over what x and a were narrowed to. Assumes nothing.
 use mathlib.Core.Path.{_≡_}
 use Prim.Native.Nat.{ℕ}
-use Rattle.ladder.specs.Solution.{Interval, Solution}
+use Rattle.ladder.specs.Solution.{Interval}
 use Rattle.ladder.specs.Narrowing.{none, ends, narrowing, HasX, HasA, HasB, Spans}
 use Rattle.ladder.specs.Search.{Never}
 use Rattle.ladder.proofs.Narrowing.{narrowing-unique}
@@ -20,7 +20,7 @@ module _ (f e : ℕ) (X A B : Interval) where
     a-spans = swap-spans f e X A B A' q
 
     -- the triples of what x and a were narrowed to are those that were there
-    narrowed-kept : Kept f e X A B X' A' B
+    pub narrowed-kept : Kept f e X A B X' A' B
     narrowed-kept x a b s = record { x-in = p .all x (record { a = a; b = b; solution = s }); a-in = a-spans .all a (record { x = x; b = b; solution = s }); b-in = s .b-in; is = s .is }
 
     narrowed-given : Kept f e X' A' B X A B
@@ -30,10 +30,6 @@ module _ (f e : ℕ) (X A B : Interval) where
       b-in = s .b-in;
       is = s .is;
     }
-
-    -- so that the b of a triple that was there is one of theirs
-    pub narrowed-b : (x a b : ℕ) → Solution f e X A B x a b → HasB f e X' A' B b
-    narrowed-b x a b s = record { x = x; a = a; solution = narrowed-kept x a b s }
 
     pub assembled : (B' : Interval) → Spans (HasB f e X' A' B) B' → ends X' A' B' ≡ narrowing f e X A B
     assembled B' r =

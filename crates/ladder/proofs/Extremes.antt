@@ -1,11 +1,10 @@
--- The least and the greatest number with a property: closed in on from both sides, read off in a mirror, and together the ends of an interval. Assumes nothing.
+-- The least and the greatest number with a property: the lesser and the greater of two, read off in a mirror, and together the ends of an interval. Assumes nothing.
 use mathlib.Core.Path.{_≡_, subst}
 use mathlib.Core.Logic.{inl, inr}
-use Prim.Native.Nat.{ℕ, _+_, _-_, _≤_, min, max}
-use native.Mathlib.Nat.{le-trans}
+use Prim.Native.Nat.{ℕ, _-_, _≤_, min, max}
 use native.Mathlib.Omega.{arith}
 use Rattle.ladder.specs.Narrowing.{Spans}
-use Rattle.ladder.specs.Search.{Never, Least, Greatest, Bracket}
+use Rattle.ladder.specs.Search.{Never, Least, Greatest}
 use Rattle.ladder.proofs.Cases.{le-or-lt}
 
 pub spans-of : {P : ℕ → Type 0} {l h : ℕ} → Least P l → Greatest P h → Spans P (record { low = l; high = h })
@@ -23,24 +22,6 @@ max-holds P s t p q = elim (le-or-lt s t) [
   | inl h ↦ let e : t ≡ max s t = omega arith in subst P e q
   | inr h ↦ let e : s ≡ max s t = omega arith in subst P e p
 ]
-
--- ---- closing in
-pub bracket-order : {P : ℕ → Type 0} {l h : ℕ} → Bracket P l h → l ≤ h
-bracket-order {P} {l} {h} r = r .below h (r .holds)
-
--- one that has the property
-pub bracket-lower : {P : ℕ → Type 0} {l h s : ℕ} → Bracket P l h → P s → Bracket P l s
-bracket-lower r p = record { holds = p; below = r .below }
-
--- none up to m has it
-pub bracket-raise : {P : ℕ → Type 0} {l h : ℕ} (m : ℕ) → Bracket P l h → ((y : ℕ) → P y → l ≤ y → y ≤ m → ⊥) → Bracket P (m + 1) h
-bracket-raise m r n = record {
-  holds = r .holds;
-  below = λ y p. elim (le-or-lt (m + 1) y) [ inl g ↦ g | inr g ↦ absurd (n y p (r .below y p) (omega arith)) ];
-}
-
-pub bracket-least : {P : ℕ → Type 0} {l h : ℕ} → Bracket P l h → h ≤ l → Least P h
-bracket-least r g = record { holds = r .holds; least = λ y p. le-trans g (r .below y p) }
 
 -- ---- two properties of which one holds at t - z where the other holds at z
 module _ (t : ℕ) (P Q : ℕ → Type 0) (to : (z : ℕ) → P z → Q (t - z)) where

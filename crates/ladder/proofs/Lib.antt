@@ -25,6 +25,7 @@ pub mod Granularity
 pub mod Clamp
 pub mod Skips
 pub mod Walk
+pub mod Staircase
 pub mod LeastSum
 pub mod Operand
 pub mod Corners

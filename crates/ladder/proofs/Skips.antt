@@ -20,13 +20,13 @@ use Rattle.ladder.proofs.Sum.{rounded-mono, rounded-value, above-mirror
 
 -- ---- multiples
 -- no multiple of g lies between u and the next one
-between : (g u v : ℕ) → g ∣ u → g ∣ v → u < v → v < u + g → ⊥
+pub between : (g u v : ℕ) → g ∣ u → g ∣ v → u < v → v < u + g → ⊥
 between g u v d c l h =
     let t = le-of-dvd (omega arith) (dvd-sub g c d) in
     omega arith
 
 -- the step after m divides every value from m on
-step-dvd : (f m m' : ℕ) → m ≤ m' → 2 ^ shift f m ∣ magnitude f m'
+pub step-dvd : (f m m' : ℕ) → m ≤ m' → 2 ^ shift f m ∣ magnitude f m'
 step-dvd f m m' h = rw (magnitude-parts f m') (times-dvd (shift f m) (shift f m') (significand f m') (shift-le f m' m h))
 
 small : (f k m : ℕ) → m < (k + 1) * 2 ^ f → shift f m ≤ k - 1
@@ -38,7 +38,7 @@ module _ (f e : ℕ) (some : 1 ≤ f) where
   s = sign f e
 
   -- ---- a sum on one side of an ordinal, in exact values
-  rounded-shift : (p n t : ℕ) → rounded f e (p + t) (n + t) ≡ rounded f e p n
+  pub rounded-shift : (p n t : ℕ) → rounded f e (p + t) (n + t) ≡ rounded f e p n
   unfolding rounded
   rounded-shift p n t =
       let u : (p + t) - (n + t) ≡ p - n = omega arith in
@@ -58,14 +58,14 @@ module _ (f e : ℕ) (some : 1 ≤ f) where
       let c = rounded-mono f e some (p + below f e b) (n + below f e b) (above f e b + n) (below f e b + n) v (omega arith) in
       omega (arith, rounded-shift p n (below f e b))
 
-  short-value : (x a b : ℕ) → s ≤ b + infinity f e → b ≤ s + infinity f e → sum f e x a < b → gains f e x a + below f e b < above f e b + losses f e x a
+  pub short-value : (x a b : ℕ) → s ≤ b + infinity f e → b ≤ s + infinity f e → sum f e x a < b → gains f e x a + below f e b < above f e b + losses f e x a
   unfolding sum
   short-value x a b l h v = elim (le-or-lt (above f e b + losses f e x a) (gains f e x a + below f e b)) [
     | inl g ↦ absurd (omega (arith, reaches (gains f e x a) (losses f e x a) b l h g))
     | inr g ↦ g
   ]
 
-  past-value : (x a b : ℕ) → s ≤ b + infinity f e → b ≤ s + infinity f e → b < sum f e x a → above f e b + losses f e x a < gains f e x a + below f e b
+  pub past-value : (x a b : ℕ) → s ≤ b + infinity f e → b ≤ s + infinity f e → b < sum f e x a → above f e b + losses f e x a < gains f e x a + below f e b
   unfolding sum
   past-value x a b l h v = elim (le-or-lt (gains f e x a + below f e b) (above f e b + losses f e x a)) [
     | inl g ↦ absurd (omega (arith, stays (gains f e x a) (losses f e x a) b l h g))
@@ -74,7 +74,7 @@ module _ (f e : ℕ) (some : 1 ≤ f) where
 
   -- ---- above zero: the step after y divides z, which is no smaller, and b, which is larger
   module _ (B : Interval) (n : Bounded f e B) (some-b : B .low ≤ B .high) where
-    skips-none : (z y : ℕ) → s ≤ y → y ≤ z → Skips f e B z y → ⊥
+    pub skips-none : (z y : ℕ) → s ≤ y → y ≤ z → Skips f e B z y → ⊥
     skips-none z y l h k =
         let b = B .low in
         let g = 2 ^ shift f (y - s) in
@@ -148,7 +148,7 @@ module _ (f e : ℕ) (some : 1 ≤ f) where
           ]
 
   -- ---- zero inside B: no number lies between two neighbours
-  around-none : (B : Interval) → B .low ≤ s → s ≤ B .high → (z y : ℕ) → z ≤ 2 * s → Skips f e B z y → ⊥
+  pub around-none : (B : Interval) → B .low ≤ s → s ≤ B .high → (z y : ℕ) → z ≤ 2 * s → Skips f e B z y → ⊥
   around-none B l h z y r w =
       let o = above-none f e s (le-refl s) in
       let o' = below-none f e s (le-refl s) in
@@ -161,7 +161,7 @@ module _ (f e : ℕ) (some : 1 ≤ f) where
       omega arith
 
   -- ---- mirrored
-  mirror-skips : (B : Interval) (z y : ℕ) → z ≤ 2 * s → y + 1 ≤ 2 * s → B .low ≤ 2 * s → B .high ≤ 2 * s → Skips f e B z y → Skips f e (reflection f e B) (mirrored f e z) (mirrored f e (y + 1))
+  pub mirror-skips : (B : Interval) (z y : ℕ) → z ≤ 2 * s → y + 1 ≤ 2 * s → B .low ≤ 2 * s → B .high ≤ 2 * s → Skips f e B z y → Skips f e (reflection f e B) (mirrored f e z) (mirrored f e (y + 1))
   mirror-skips B z y h l b b' w =
       let at : mirrored f e (y + 1) + 1 ≡ mirrored f e y = omega arith in
       record {

@@ -23,11 +23,6 @@ pub record Greatest (P : ℕ → Type 0) (y : ℕ) : Type 0 where
   pub holds : P y
   pub most : (z : ℕ) → P z → z ≤ y
 
--- the least of them lies from l to h
-pub record Bracket (P : ℕ → Type 0) (l h : ℕ) : Type 0 where
-  pub holds : P h
-  pub below : (y : ℕ) → P y → l ≤ y
-
 -- ---- one operand
 -- y inside I has a sum with a of at least b
 pub record Attains (f e a b : ℕ) (I : Interval) (y : ℕ) : Type 0 where
@@ -38,6 +33,11 @@ pub record Attains (f e a b : ℕ) (I : Interval) (y : ℕ) : Type 0 where
 pub record Stays (f e a b : ℕ) (I : Interval) (y : ℕ) : Type 0 where
   pub inside : In I y
   pub no-more : sum f e y a ≤ b
+
+-- t is no more than the least sum with a that is at least b, if one inside I has such a sum
+pub data AtMost (f e b : ℕ) (I : Interval) (a t : ℕ) : Type 0 where
+  none : Never (Attains f e a b I) → AtMost f e b I a t
+  least : (y : ℕ) → Least (Attains f e a b I) y → t ≤ sum f e y a → AtMost f e b I a t
 
 -- twice the midpoint of b and its lower neighbour, less twice a, which twice an operand must reach: so many units above zero
 abbrev pub crossingUp : ℕ → ℕ → ℕ → ℕ → ℕ

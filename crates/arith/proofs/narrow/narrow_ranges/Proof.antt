@@ -2,7 +2,7 @@
 use borrow.Author.Needs.{needs}
 use Rattle.ladder.proofs.Solutions.{swap, swap-never}
 use Rattle.ladder.proofs.Corners.{corners-span}
-use Rattle.ladder.proofs.Assembly.{never-x, narrowed-b, assembled}
+use Rattle.ladder.proofs.Assembly.{never-x, narrowed-kept, assembled}
 use Rattle.arith.specs.declared.corner.Corner.the-variants as Corner
 use Rattle.arith.specs.Searches.{span, CornerOf}
 use Rattle.arith.proofs.Narrowings.{spans-ends}
@@ -61,8 +61,8 @@ extent-b-requires c κs =
     let B = span (z .args .b) in
     let p = first (c .before .before .before .before) in
     let q = second c in
-    let b = narrowed-b (F .fraction) (F .exponent) X A B _ _ (corners-span p q) (corners-span q p) in
-    (z .pre .0, spans-ends F (z .args .x) (z .args .a) (z .args .b) _ (z .pre .1) (corners-span p q), spans-ends F (z .args .a) (z .args .x) (z .args .b) _ (z .pre .2) (corners-span q p), z .pre .3, b _ _ _ (p .solution), b _ _ _ (swap (q .solution)))
+    let k = narrowed-kept (F .fraction) (F .exponent) X A B _ _ (corners-span p q) (corners-span q p) in
+    (z .pre .0, spans-ends F (z .args .x) (z .args .a) (z .args .b) _ (z .pre .1) (corners-span p q), spans-ends F (z .args .a) (z .args .x) (z .args .b) _ (z .pre .2) (corners-span q p), z .pre .3, k _ _ _ (p .solution), k _ _ _ (swap (q .solution)))
 
 returns-3 : tie.Need-returns-3
 returns-3 c =
