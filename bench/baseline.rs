@@ -1,5 +1,5 @@
-//! The C entry's work without proofs: the same refusals and answers, by galloping search over the hardware's addition. Also the
-//! part of it that every narrowing has: the refusals, the four sums of the ends of x and a, and the writing of six ends.
+//! The C entry's work without proofs: the same refusals and answers, by galloping search over the hardware's addition. Also
+//! what a narrowing can hardly do without: the refusals, the four sums of the ends of x and a, and the writing of six ends.
 
 use crate::ends;
 use crate::floats::{Binary32, Binary64, Narrowed, Range, Width};

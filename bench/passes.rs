@@ -123,7 +123,7 @@ pub fn pass(program: &str) {
             &mut || time(&library, &all).0,
             &mut || time(&reference, &one).0,
             &mut || time(&reference, &all).0,
-            &mut || round(tazsmibor::entry, 64, &narrowings).0,
+            &mut || round(tazsmibor::entry, 64, &narrowings),
         ],
     );
     let per_pass = |short: f64, long: f64| (long - short) / PASSES as f64;

@@ -69,7 +69,7 @@ pub fn around<W: Width>(words: &mut Words, middle: Place, most: i64) -> Range {
     Range { low, high: low + length }
 }
 
-/// A range for b: about a sum of two of the operands, now and then with one end or both far out.
+/// A range for b: about a sum of two of the operands, now and then with one end far out.
 pub fn about_sum<W: Width>(words: &mut Words, x: Range, a: Range, most: i64) -> Range {
     let sum = W::sum(words.between(x.low, x.high), words.between(a.low, a.high));
     let middle = sum + words.between(-2, 2);

@@ -1,4 +1,4 @@
--- Ranges of the code as intervals of `ladder`: their ends are finite in the one sense where they are in the other, and the corner of operands that make the same triples is the corner, as after the clamp. Assumes nothing.
+-- Ranges of the code as intervals of `ladder`: finite ends are bounded intervals and back; the clamped operands make the same triples, and so have the same corner. Assumes nothing.
 use mathlib.Core.Path.{_≡_, subst}
 use Prim.Native.Nat.{ℕ, _-_, _≤_, _<_}
 use native.Mathlib.Omega.{arith}

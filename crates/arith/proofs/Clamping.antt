@@ -1,4 +1,4 @@
--- The clamp in words: the exponent field of the sum's ends, the digits in which they differ, and the raised end. Assumes nothing.
+-- The clamp on machine words: the exponent field of the sum's ends, the digits in which they differ, and the raised end. Assumes nothing.
 use mathlib.Core.Path.{_≡_, refl, sym, ap, _∙_, subst}
 use mathlib.Core.Logic.{inl, inr}
 use Prim.Native.Nat.{ℕ, zero, suc, _+_, _-_, _*_, _/_, _^_, _≤_, _<_, _∣_, max}
@@ -34,7 +34,7 @@ agree p q r e =
     let l : bitXor p q < 2 ^ r = subst (λ (x : ℕ). bitXor p q < 2 ^ x) (sym e) (size-lt (bitXor p q)) in
     xor-none (p / 2 ^ r) (q / 2 ^ r) (sym (xor-shr p q r) ∙ div-eq-of-lt l)
 
--- and in the last of them they do differ
+-- and in the highest of them they do differ
 pub differ : (p q r : ℕ) → p < q → r ≡ size (bitXor p q) → (0 < r) × (p / 2 ^ (r - 1) < q / 2 ^ (r - 1))
 differ p q r l e = elim (le-or-lt (q / 2 ^ (r - 1)) (p / 2 ^ (r - 1))) [
   | inl h ↦
@@ -87,11 +87,8 @@ module _ (f q lo hi : ℕ) (is : q ≡ hi / 2 ^ f) where
   -- ---- and half of that power divides one
   pub some-wide : (lo / 2 ^ f ≡ q → ⊥) → lo ≤ hi → SomeMultiple f (f + q) lo hi
   some-wide n h =
-      let l : lo / 2 ^ f < q = omega (arith, shr-mono f h, n') in
+      let l : lo / 2 ^ f < q = omega (arith, shr-mono f h, n) in
       binade-some f q lo hi (omega arith) (le-of-lt (div-lt-iff-lt-mul (pow-pos f) .0 l)) (field f q hi is .0)
-    where
-      n' : (lo / 2 ^ f ≡ q) → ⊥
-      n' = n
 
   pub some-low : (j : ℕ) → q ≡ 0 → 0 < j → (lo - 1) / 2 ^ (j - 1) < hi / 2 ^ (j - 1) → SomeMultiple f j lo hi
   some-low j z p l =

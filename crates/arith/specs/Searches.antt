@@ -1,4 +1,4 @@
--- What the functions below the narrowing answer: each answer's enum goes over into what `ladder` says of it. Assumes nothing.
+-- What the functions that the narrowing calls answer: each case of an answer, by `ladder`'s definitions. Assumes nothing.
 use Prim.Native.Nat.{ℕ, _-_, _<_}
 use Rattle.ladder.specs.Solution.{Interval, Solution}
 use Rattle.ladder.specs.Narrowing as N
@@ -77,9 +77,11 @@ Fine F X A B = S.Fine (F .fraction) (F .exponent) (span X) (span A) (span B)
 pub record SameTriples (F : Format) (X A B : Range) (O : Operands) : Type 0 where
   pub x-ends : Ends F (O .x)
   pub a-ends : Ends F (O .a)
+  -- no triple is lost
   pub kept : (x a b : ℕ) → Triple F X A B x a b → Triple F (O .x) (O .a) B x a b
-  pub fine : Fine F (O .x) (O .a) B
+  -- none is added
   pub given : (x a b : ℕ) → Triple F (O .x) (O .a) B x a b → Triple F X A B x a b
+  pub fine : Fine F (O .x) (O .a) B
 
 -- ---- the narrowing of ranges
 -- the code's answer as ladder's

@@ -1,4 +1,4 @@
-// The clamp: a power of two that divides no value of the sum's range, and an operand's range without the values that are all its multiples.
+// The clamp: a power of two that divides no value of the sum's range, and an operand's range without the stretch, beyond zero from the sum, in which every float is a multiple of it.
 ghost use mathlib.Core.Path.{_≡_};
 ghost use Prim.Native.Nat.{_-_, _/_, _^_, _≤_, _<_};
 ghost use Rattle.ladder.specs.Search.{NoMultiple, SomeMultiple, raised, lowered};
@@ -21,7 +21,7 @@ fn differing(p: u64, q: u64) -> u64
     digits(p ^ q)
 }
 
-// A k such that no magnitude from lo to hi is a multiple of 2^k, but one is of half of that.
+// A k such that for no m from lo to hi the value is a multiple of 2^k units, but for one it is of half of that.
 pub(crate) fn granularity(fraction: u64, lo: u64, hi: u64) -> u64
     requires { ⌜ (Fraction fraction) × (0 < lo) × (lo ≤ hi) ⌝ }
     ensures { λ k. ⌜ (NoMultiple fraction k lo hi) × (SomeMultiple fraction k lo hi) ⌝ }

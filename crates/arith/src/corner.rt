@@ -126,7 +126,7 @@ fn clamp(format: Format, x: Range, a: Range, b: Range) -> Operands
     Operands { x, a }
 }
 
-// The corner by search.
+// The corner by the clamp and the walk.
 pub(crate) fn search_corner(format: Format, x: Range, a: Range, b: Range) -> Corner
     requires { ⌜ (Sound format) × (Ends format x) × (Ends format a) × (Ends format b) × (b .low ≤ b .high) ⌝ }
     ensures { λ r. ⌜ CornerOf format x a b r ⌝ }
@@ -135,7 +135,7 @@ pub(crate) fn search_corner(format: Format, x: Range, a: Range, b: Range) -> Cor
     walk(format, o.x, o.a, b)
 }
 
-// The corner: x's low and a's high end where these make a triple, else by search.
+// The corner: x's low and a's high end where these make a triple, else by the walk.
 pub(crate) fn corner_of(format: Format, x: Range, a: Range, b: Range) -> Corner
     requires { ⌜ (Sound format) × (Ends format x) × (Ends format a) × (Ends format b) × (x .low ≤ x .high) × (a .low ≤ a .high) × (b .low ≤ b .high) ⌝ }
     ensures { λ r. ⌜ CornerOf format x a b r ⌝ }

@@ -1,4 +1,4 @@
--- The clamp: where B is above zero and none of its values is a multiple of 2^k, no operand lies 2^(k + f) units or more below zero, since both would then be multiples of 2^k, and so their sum.
+-- The clamp: where B is above zero and none of its values is a multiple of 2^k, no operand of a triple lies 2^(k + f) units or more below zero, since both would then be multiples of 2^k, and so their sum.
 -- For B below zero the same holds of the mirrored intervals. Assumes nothing.
 use mathlib.Core.Path.{_≡_, ap, subst}
 use mathlib.Core.Logic.{inl, inr}

@@ -107,7 +107,7 @@ extent-from t y zero = λ z r. omega arith
 extent-from t y (suc n) = widens t y n (t y) refl (extentFrom t (suc y) n) (extent-from t (suc y) n)
 
 -- of one property for another that holds of the same numbers
-pub extent-map : (P Q : ℕ → Type 0) (s : Extent) → ((y : ℕ) → P y → Q y) → ((y : ℕ) → Q y → P y) → IsExtent P s → IsExtent Q s
+extent-map : (P Q : ℕ → Type 0) (s : Extent) → ((y : ℕ) → P y → Q y) → ((y : ℕ) → Q y → P y) → IsExtent P s → IsExtent Q s
 extent-map P Q empty p q h = λ y r. h y (q y r)
 extent-map P Q (over i) p q h = record { low = p (i .low) (h .low); high = p (i .high) (h .high); all = λ y r. h .all y (q y r) }
 

@@ -1,4 +1,4 @@
--- Which powers of two divide no value of a run of m, while half of them divides one: more than the upper value has digits, or, inside one binade, the digits in which the number before the lowest significand and the highest differ. Assumes nothing.
+-- The least power of two that divides no value of a run of m, so that half of it divides one: with ends in different binades, its exponent is the number of digits of the upper value; inside one binade, the number of low digits to drop until the highest significand and the number before the lowest agree, plus the binade's shift. Assumes nothing.
 use mathlib.Core.Path.{_≡_, sym, ap, _∙_, subst}
 use mathlib.Core.Logic.{inl, inr}
 use Prim.Native.Nat.{ℕ, _+_, _-_, _*_, _/_, _^_, _≤_, _<_, _∣_}
@@ -7,7 +7,7 @@ use native.Mathlib.Omega.{arith}
 use lib.Pow.{pow-pos, pow-add}
 use Rattle.ladder.specs.Magnitude.{magnitude}
 use Rattle.ladder.specs.Search.{NoMultiple, SomeMultiple}
-use Rattle.ladder.proofs.Magnitude.{magnitude-lt, magnitude-high, magnitude-is, Counted}
+use Rattle.ladder.proofs.Magnitude.{magnitude-lt, magnitude-high, magnitude-is, Counted, counted-more}
 
 -- between u and v, which agree but for j digits, lies no multiple of 2^j
 gapless : (u v s j : ℕ) → u / 2 ^ j ≡ v / 2 ^ j → u < s → s ≤ v → 2 ^ j ∣ s → ⊥
@@ -18,16 +18,12 @@ gapless u v s j e l h d =
     let b : q ≤ v / 2 ^ j = le-div-iff-mul-le (pow-pos j) .1 (omega arith) in
     omega arith
 
-more : {h k p q : ℕ} → Counted h k p → p ≤ q → Counted h k q
-more (inl z) w = inl z
-more (inr z) w = inr (omega arith)
-
 module _ (f : ℕ) where
   -- a power of two
   pub magnitude-power : (k : ℕ) → magnitude f ((k + 1) * 2 ^ f) ≡ 2 ^ (f + k)
   magnitude-power k = ap (magnitude f) (omega arith) ∙ magnitude-high f k (2 ^ f) (le-refl (2 ^ f)) (omega arith) ∙ sym (pow-add 2 f k)
 
-  -- more than the digits of the upper value
+  -- at least as many as the upper value has digits
   pub digits-free : (k lo hi : ℕ) → 0 < lo → hi < (k + 1) * 2 ^ f → NoMultiple f (f + k) lo hi
   digits-free k lo hi p h m l g d =
       let a = le-of-dvd (omega (arith, magnitude-lt f 0 m (omega arith))) d in
@@ -43,17 +39,17 @@ module _ (f : ℕ) where
   pub binade-free : (j k lo hi : ℕ) → Counted (2 ^ f) k lo → hi ≤ 2 * 2 ^ f → 0 < lo → (lo - 1) / 2 ^ j ≡ hi / 2 ^ j → NoMultiple f (j + k) (k * 2 ^ f + lo) (k * 2 ^ f + hi)
   binade-free j k lo hi c h p e m l g d =
       let s = m - k * 2 ^ f in
-      let is : magnitude f m ≡ s * 2 ^ k = ap (magnitude f) (omega arith) ∙ magnitude-is f k s (more c (omega arith)) (omega arith) in
+      let is : magnitude f m ≡ s * 2 ^ k = ap (magnitude f) (omega arith) ∙ magnitude-is f k s (counted-more c (omega arith)) (omega arith) in
       let d' : 2 ^ j * 2 ^ k ∣ s * 2 ^ k = subst (λ (x : ℕ). x ∣ s * 2 ^ k) (pow-add 2 j k) (subst (λ (x : ℕ). 2 ^ (j + k) ∣ x) is d) in
       gapless (lo - 1) hi s j e (omega arith) (omega arith) (dvd-of-mul-dvd-mul-right (2 ^ j) (pow-pos k) d')
 
-  -- but where they differ in the last of these digits, one of the significands is a multiple of half of that
+  -- but where they differ in the highest of these digits, one of the significands is a multiple of half of that
   pub digits-some : (j k lo hi : ℕ) → Counted (2 ^ f) k lo → hi ≤ 2 * 2 ^ f → 0 < j → (lo - 1) / 2 ^ (j - 1) < hi / 2 ^ (j - 1) → SomeMultiple f (j + k) (k * 2 ^ f + lo) (k * 2 ^ f + hi)
   digits-some j k lo hi c h p l =
       let d = 2 ^ (j - 1) in
       let t = hi / d * d in
       let low : lo - 1 < t = div-lt-iff-lt-mul (pow-pos (j - 1)) .0 l in
       let high : t ≤ hi = div-mul-le-self hi d in
-      let is : magnitude f (k * 2 ^ f + t) ≡ t * 2 ^ k = magnitude-is f k t (more c (omega arith)) (omega arith) in
+      let is : magnitude f (k * 2 ^ f + t) ≡ t * 2 ^ k = magnitude-is f k t (counted-more c (omega arith)) (omega arith) in
       let e : 2 ^ (j + k - 1) ≡ d * 2 ^ k = ap (λ (x : ℕ). 2 ^ x) (omega arith) ∙ pow-add 2 (j - 1) k in
       record { m = k * 2 ^ f + t; low = omega arith; high = omega arith; divides = rw (is, e) (mul-dvd-mul-right d (dvd-mul-left d (hi / d)) (2 ^ k)) }

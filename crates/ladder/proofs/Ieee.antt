@@ -17,7 +17,7 @@ use lib.Ieee.Nearest.{closest, closest-same, nearest-ge}
 use Rattle.ladder.specs.Magnitude.{magnitude}
 use Rattle.ladder.specs.Rounding.{excess, round, truncated}
 use Rattle.ladder.proofs.Cases.{le-or-lt}
-use Rattle.ladder.proofs.Magnitude.{Counted, magnitude-is, magnitude-high, magnitude-le, magnitude-lt}
+use Rattle.ladder.proofs.Magnitude.{counted-more, magnitude-is, magnitude-high, magnitude-le, magnitude-lt}
 use Rattle.ladder.proofs.Rounding.{counted, few}
 use Rattle.ladder.proofs.Truncation.{truncated-magnitude}
 
@@ -28,7 +28,7 @@ suc-frac : (F : Format) → suc (frac F) ≡ prec F
 suc-frac F = omega (arith, two F)
 
 -- the bits of a finite value
-pub bits-of : (F : Format) (x : Float) (s : Bool) (a : ℕ) → HasValue x s a (2 ^ low F) → toBits F x ≡ cond s (top F) 0 + truncated (frac F) a
+bits-of : (F : Format) (x : Float) (s : Bool) (a : ℕ) → HasValue x s a (2 ^ low F) → toBits F x ≡ cond s (top F) 0 + truncated (frac F) a
 unfolding toBits truncated excess
 bits-of F nan s a h = absurd h
 bits-of F (inf t) s a h = absurd h
@@ -44,11 +44,7 @@ unfolding round
 rounded-kept f n =
     let u = 2 ^ excess f n in
     let o = compare (n % u * 2) u in
-    magnitude-is f (excess f n) (closest n u) (more (counted f n) (nearest-ge (n / u) o)) (omega (arith, nearest-le (n / u) o, few f n))
-  where
-    more : {h k w q : ℕ} → Counted h k w → w ≤ q → Counted h k q
-    more (inl e) l = inl e
-    more (inr g) l = inr (omega arith)
+    magnitude-is f (excess f n) (closest n u) (counted-more (counted f n) (nearest-ge (n / u) o)) (omega (arith, nearest-le (n / u) o, few f n))
 
 round-units : (F : Format) (s : Bool) (n : ℕ) → I.round F s n (2 ^ low F) ≡ units F s (closest n (2 ^ excess (frac F) n)) (excess (frac F) n)
 unfolding excess

@@ -32,6 +32,10 @@ pub counted-suc : (h k q : ℕ) → Counted h k q → Counted h k (suc q)
 counted-suc h k q (inl e) = inl e
 counted-suc h k q (inr l) = inr (omega arith)
 
+pub counted-more : {h k p q : ℕ} → Counted h k p → p ≤ q → Counted h k q
+counted-more (inl e) l = inl e
+counted-more (inr g) l = inr (omega arith)
+
 pub magnitude-is : (f k q : ℕ) → Counted (2 ^ f) k q → q ≤ 2 * 2 ^ f → magnitude f (k * 2 ^ f + q) ≡ q * 2 ^ k
 magnitude-is f k q (inr a) b = magnitude-high f k q a b
 magnitude-is f k q (inl e) b = elim (le-or-lt (2 ^ f) q) [

@@ -1,4 +1,4 @@
--- The greatest operand with a sum of at most b is the mirror image of the least, for the mirrored a and b, with a sum of at least b. Assumes nothing.
+-- The greatest operand with a sum of at most b is the mirror image of the least of the mirrored interval with a sum, with the mirrored a, of at least the mirrored b. Assumes nothing.
 use mathlib.Core.Path.{_≡_, subst}
 use Prim.Native.Nat.{ℕ, _*_, _≤_}
 use native.Mathlib.Omega.{arith}

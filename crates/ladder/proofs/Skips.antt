@@ -1,5 +1,5 @@
--- At most two turns bring the walk to the corner. A turn that goes too far skips B: one number's sum falls short, the next one's is past B. Below zero the clamp excludes that, since the step divides a value of B;
--- above zero the smaller of the two operands skips nothing, since its step divides the other and every larger value. So no turn that skips B is followed by another. Assumes nothing.
+-- At most two turns bring the walk to the corner, or show that there is no triple. A turn that goes too far skips B: one number's sum falls short, the next one's is past B. Below zero the clamp excludes that, since the step divides a value of B;
+-- above zero the smaller of the two operands skips nothing, since its step divides the other and every larger value. So of two turns at most one skips B; that x, going up in the second, does not become the larger operand is monotonicity. Assumes nothing.
 use mathlib.Core.Path.{_≡_, sym, ap, _∙_, subst}
 use mathlib.Core.Logic.{inl, inr}
 use Prim.Native.Nat.{ℕ, _+_, _-_, _*_, _/_, _^_, _≤_, _<_, _∣_}

@@ -87,7 +87,7 @@ module _ (f e : ℕ) (some : 1 ≤ f) (X A B : Interval) (nx : Bounded f e X) (n
     is = sum-mirror f e some x a (finite-twice f e x (finite-in f e X nx x (s .x-in))) (finite-twice f e a (finite-in f e A na a (s .a-in))) ∙ ap (mirrored f e) (s .is);
   }
 
-  pub mirrored-solution : (x a b : ℕ) → Solution f e X' A' B' x a b → Solution f e X A B (mirrored f e x) (mirrored f e a) (mirrored f e b)
+  mirrored-solution : (x a b : ℕ) → Solution f e X' A' B' x a b → Solution f e X A B (mirrored f e x) (mirrored f e a) (mirrored f e b)
   mirrored-solution x a b s =
       let fx = finite-in f e X' (mirror-bounded f e X nx) x (s .x-in) in
       let fa = finite-in f e A' (mirror-bounded f e A na) a (s .a-in) in

@@ -52,7 +52,7 @@ abbrev pub Threshold : ℕ → ℕ → ℕ → ℕ → ℕ → Type 0
 Threshold f e a b x = (y : ℕ) → (b ≤ sum f e y a) ↔ (x ≤ y)
 
 -- ---- the triples' corner
--- no triple has an x below x or an a above a
+-- x inside X and a inside A, and no triple has a smaller x or a greater a
 pub record Frontier (f e : ℕ) (X A B : Interval) (x a : ℕ) : Type 0 where
   pub x-in : In X x
   pub a-in : In A a
@@ -79,11 +79,12 @@ pub record Bounded (f e : ℕ) (I : Interval) : Type 0 where
 abbrev pub reflection : ℕ → ℕ → Interval → Interval
 reflection f e I = record { low = mirrored f e (I .high); high = mirrored f e (I .low) }
 
--- no value of m from lo to hi is a multiple of 2^k units
+-- ---- the clamp
+-- for no m from lo to hi is the value a multiple of 2^k units
 abbrev pub NoMultiple : ℕ → ℕ → ℕ → ℕ → Type 0
 NoMultiple f k lo hi = (m : ℕ) → lo ≤ m → m ≤ hi → 2 ^ k ∣ magnitude f m → ⊥
 
--- a value of m from lo to hi is a multiple of half of 2^k units
+-- for one m from lo to hi the value is a multiple of half of 2^k units, of one unit where k is 0
 pub record SomeMultiple (f k lo hi : ℕ) : Type 0 where
   pub m : ℕ
   pub low : lo ≤ m
@@ -98,7 +99,7 @@ raised f e k I = record { low = max (I .low) (sign f e + 1 - (k + 1) * 2 ^ f); h
 abbrev pub lowered : ℕ → ℕ → ℕ → Interval → Interval
 lowered f e k I = reflection f e (raised f e k (reflection f e I))
 
--- what the clamp leaves of the operands' intervals: nothing too coarse for B, if zero is not in B
+-- nothing in X or A is too coarse for B: with B above zero, and a value of B that is a multiple of half of 2^k units, no operand lies 2^(k + f) units or more below zero; with B below zero the mirror image; with zero in B nothing is asked
 pub data Fine (f e : ℕ) (X A B : Interval) : Type 0 where
   around : B .low ≤ sign f e → sign f e ≤ B .high → Fine f e X A B
   over : (k : ℕ) → sign f e < B .low → SomeMultiple f k (B .low - sign f e) (B .high - sign f e) → sign f e < X .low + (k + 1) * 2 ^ f → sign f e < A .low + (k + 1) * 2 ^ f → Fine f e X A B
