@@ -1,7 +1,8 @@
--- What the walks by hand share: a loop of n turns, and a call of a function whose contract fixes its result. It says nothing of the crate, and can be copied as it stands.
+-- What the walks by hand share: a loop of n turns, and a call of a function by its contract. It says nothing of the crate, and can be copied as it stands.
 --     At i, Good i     what is had after i turns, and what is known.        more, ends      a turn that goes on, and the turn that leaves the loop, with the rest of the body
 --     turns            from `At 0` the loop runs
---     calls-fixed      the call rule for a contract whose `ensures` gives ⌜φ r⌝, where φ r gives r ≡ d: the machine value of d lands, and φ holds of d.        calls-is     the same where φ r is r ≡ d
+--     calls-said       the call rule for a contract whose `ensures` gives ⌜φ r⌝: the machine value of an r lands, with what r owns, and φ holds of r
+--     calls-fixed      the same where φ r gives r ≡ d: the machine value of d lands, and φ holds of d. What d owns is let go.        calls-is     the same where φ r is r ≡ d
 -- Assumes `Given`, and for a call that the table of calls is monotone under a frame.
 use mathlib.Core.Path.{_≡_, sym, _∙_, ap, subst}
 use Prim.Native.Nat.{ℕ, zero, suc, _+_, _<_}
@@ -60,13 +61,26 @@ module _ {M : Type 1} (𝓤 : URA M) (H : Heap 𝓤) (A : Atoms 𝓤) (W : Given
       (loop-rule 𝓤 H (W .laws) 𝓣 _<_ (Nat·lt-wfRel .wf) En turn Left Inv
       (λ t. exE 𝓤 (λ (i : ℕ). guard 𝓤 (Facts t i) (⋆ 𝓤 H A (At i))) (λ i. guardE 𝓤 (Facts t i) (⋆ 𝓤 H A (At i)) (λ fs. turn-at t i fs))) n)
 
--- ---- a call whose contract fixes its result
+-- ---- a call
 -- a contract with its clauses, as a triple
 module _ {M : Type 1} (𝓤 : URA M) (H : Heap 𝓤) (A : Atoms 𝓤) where
   abbrev pub contractOf : (T : Ended) → Clauses 𝓤 T → Contract 𝓤
   contractOf T c = tripleOf 𝓤 H A (T .signature) (closing 𝓤 H A T c)
 
 module _ {M : Type 1} {𝓤 : URA M} {H : Heap 𝓤} {A : Atoms 𝓤} {K : Type 0} {W : Given 𝓤 H A} {Γ : List (Item 𝓤)} {E : Env 𝓤 H} {C : Calls 𝓤 H} {Λ : Loops 𝓤 H} {q : Post 𝓤 H} {f : Name} {xs : List Operand} {p : Place} {rest : Body} where
+  pub calls-said : K → FmC 𝓤 H (W .laws) C → (T : Ended) (c : Clauses 𝓤 T) → Triple 𝓤 (C f) (contractOf 𝓤 H A T c) → (y : contractOf 𝓤 H A T c .Ghost)
+      → (φ : Res (T .signature) (y .0 .0) → Type 0) → ((r : Res (T .signature) (y .0 .0)) (e : AtExit T (y .0 .0)) → ent 𝓤 (c (y .0 .0) (y .0 .3) .ensures (y .1) r e) (fact 𝓤 (φ r)))
+      → Opds K W (raw (contractOf 𝓤 H A T c .pre y) ∷ Γ) E xs (contractOf 𝓤 H A T c .args y)
+      → ((r : Res (T .signature) (y .0 .0)) (w : Val) → φ r → Is (typeAt (T .signature .result) (y .0 .0)) r (w ∷ []) → Seq K W (‵ (typeAt (T .signature .result) (y .0 .0) .own r (w ∷ [])) ∷ raw (alive 𝓤 H A (T .signature) (y .0 .0) (y .0 .1)) ∷ Γ) (lands C Λ E p w rest q))
+      → Seq K W (raw (contractOf 𝓤 H A T c .pre y) ∷ Γ) (runs C Λ E (seq (call f xs p) rest) q)
+  calls-said t fm T c known y φ says os k =
+      let R : RattleType = typeAt (T .signature .result) (y .0 .0) in
+      let a : Args (T .signature) (y .0 .0) = y .0 .3 in
+      calls-at t fm (contractOf 𝓤 H A T c) known y os (λ w.
+      use1 W (later (some (λ (r : R .Denot). (raw (alive 𝓤 H A (T .signature) (y .0 .0) (y .0 .1)) ⊛ ‵ (R .own r (w ∷ []))) ⊛ some (λ (ws : Lasts T (y .0 .0) a). ‵ (lasts T (y .0 .0) a ws) ⊛ raw (c (y .0 .0) a .ensures (y .1) r (atExit T (y .0 .0) a ws)))))) (id⊢ 𝓤 _) $ await t tt $ pick t (λ r.
+      split t $ move t (1 ∷ []) $ pick t (λ ws. split t $ drop t $ use1 W (raw (fact 𝓤 (φ r))) (says r (atExit T (y .0 .0) a ws)) $ heard t (φ r) (λ h.
+      split t $ move t (1 ∷ []) $ peeks t R (Is R) (shows 𝓤 H A R) r (w ∷ []) (λ i. k r w h i)))))
+
   pub calls-fixed : K → FmC 𝓤 H (W .laws) C → (T : Ended) (c : Clauses 𝓤 T) → Triple 𝓤 (C f) (contractOf 𝓤 H A T c) → (y : contractOf 𝓤 H A T c .Ghost)
       → (val : Res (T .signature) (y .0 .0) → Val) → Tells (typeAt (T .signature .result) (y .0 .0)) (Is (typeAt (T .signature .result) (y .0 .0))) (λ r. val r ∷ [])
       → (φ : Res (T .signature) (y .0 .0) → Type 0) (d : Res (T .signature) (y .0 .0)) → ((r : Res (T .signature) (y .0 .0)) → φ r → r ≡ d)
@@ -76,13 +90,9 @@ module _ {M : Type 1} {𝓤 : URA M} {H : Heap 𝓤} {A : Atoms 𝓤} {K : Type 
       → Seq K W (raw (contractOf 𝓤 H A T c .pre y) ∷ Γ) (runs C Λ E (seq (call f xs p) rest) q)
   calls-fixed t fm T c known y val tells φ d is says os k =
       let R : RattleType = typeAt (T .signature .result) (y .0 .0) in
-      let a : Args (T .signature) (y .0 .0) = y .0 .3 in
-      calls-at t fm (contractOf 𝓤 H A T c) known y os (λ w.
-      use1 W (later (some (λ (r : R .Denot). (raw (alive 𝓤 H A (T .signature) (y .0 .0) (y .0 .1)) ⊛ ‵ (R .own r (w ∷ []))) ⊛ some (λ (ws : Lasts T (y .0 .0) a). ‵ (lasts T (y .0 .0) a ws) ⊛ raw (c (y .0 .0) a .ensures (y .1) r (atExit T (y .0 .0) a ws)))))) (id⊢ 𝓤 _) $ await t tt $ pick t (λ r.
-      split t $ move t (1 ∷ []) $ pick t (λ ws. split t $ drop t $ use1 W (raw (fact 𝓤 (φ r))) (says r (atExit T (y .0 .0) a ws)) $ heard t (φ r) (λ h.
-      split t $ move t (1 ∷ []) $ peeks t R (Is R) (shows 𝓤 H A R) r (w ∷ []) (λ i. drop t $
+      calls-said t fm T c known y φ says os (λ r w h i. drop t $
       subst (λ (u : Val). Seq K W (raw (alive 𝓤 H A (T .signature) (y .0 .0) (y .0 .1)) ∷ Γ) (lands C Λ E p u rest q)) (sym (ap only (tells r _ i) ∙ ap val (is r h)))
-      (k (subst φ (is r h) h) (subst (λ (u : R .Denot). Is R u (val u ∷ [])) (is r h) (subst (Is R r) (tells r _ i) i))))))))
+      (k (subst φ (is r h) h) (subst (λ (u : R .Denot). Is R u (val u ∷ [])) (is r h) (subst (Is R r) (tells r _ i) i))))
 
   pub calls-is : K → FmC 𝓤 H (W .laws) C → (T : Ended) (c : Clauses 𝓤 T) → Triple 𝓤 (C f) (contractOf 𝓤 H A T c) → (y : contractOf 𝓤 H A T c .Ghost)
       → (val : Res (T .signature) (y .0 .0) → Val) → Tells (typeAt (T .signature .result) (y .0 .0)) (Is (typeAt (T .signature .result) (y .0 .0))) (λ r. val r ∷ [])
