@@ -1,10 +1,14 @@
 // From the least to the greatest b in a triple, without a search: b's low end where it stands in a triple, else the least of a few sums. The greatest is the mirror image of the least of the mirrored ranges.
+ghost use mathlib.Core.Path.{_≡_};
+ghost use mathlib.Core.Logic.{_⊎_};
 ghost use Prim.Native.Nat.{_≤_};
 ghost use Rattle.arith.specs.Formats.{Sound, sum};
 ghost use Rattle.arith.specs.Intervals.{Ends};
 ghost use Rattle.arith.specs.Searches.{LeastOf, Spans, Triple, HasB, AtMost, AtMostBefore};
 use crate::corner::Corner;
+use crate::corner::Operands;
 use crate::corner::search_corner;
+use crate::exact::distance_from_zero;
 use crate::format::Format;
 use crate::hardware::add_ordinals;
 use crate::operand::Found;
@@ -59,6 +63,36 @@ fn least_above(format: Format, x: Range, a: Range, b: Range, known: u64) -> u64
     lesser_before(format, a, x, b, s)
 }
 
+// The least b in a triple. The least sum with x's low end mostly is it, as one question tells.
+fn least_with(format: Format, x: Range, a: Range, b: Range, known: u64) -> u64
+    requires { ⌜ (Sound format) × (Ends format x) × (Ends format a) × (Ends format b) × (b .low ≤ sum format (x .low) (a .high)) × (b .low ≤ sum format (x .high) (a .low)) × (HasB format x a b known) ⌝ }
+    ensures { λ r. ⌜ LeastOf (HasB format x a b) (Found.At r) ⌝ }
+{
+    let s = lesser(format, x.low, a, x, b, known);
+    if s <= b.low {
+        return s;
+    }
+    let below = Range {
+        low: b.low,
+        high: s - 1,
+    };
+    let Corner::At { x: _, a: _, b: _ } = search_corner(format, x, a, below) else {
+        return s;
+    };
+    let t = lesser(format, a.low, x, a, b, s);
+    least_above(format, x, a, b, t)
+}
+
+// The operands, first the one whose low end is farther from zero: with it held, the other moves the sum in smaller steps.
+fn farther_first(format: Format, x: Range, a: Range) -> Operands
+    ensures { λ r. ⌜ ((r .x ≡ x) × (r .a ≡ a)) ⊎ ((r .x ≡ a) × (r .a ≡ x)) ⌝ }
+{
+    if distance_from_zero(format, x.low) < distance_from_zero(format, a.low) {
+        return Operands { x: a, a: x };
+    }
+    Operands { x, a }
+}
+
 // The least b in a triple: the sum of the low ends, unless that is below b.
 fn least_b(format: Format, x: Range, a: Range, b: Range, known: u64) -> u64
     requires { ⌜ (Sound format) × (Ends format x) × (Ends format a) × (Ends format b) × (b .low ≤ sum format (x .low) (a .high)) × (b .low ≤ sum format (x .high) (a .low)) × (HasB format x a b known) ⌝ }
@@ -68,15 +102,11 @@ fn least_b(format: Format, x: Range, a: Range, b: Range, known: u64) -> u64
     if b.low <= least {
         return least;
     }
-    let s = lesser(format, x.low, a, x, b, known);
-    if s <= b.low {
-        return s;
+    if known <= b.low {
+        return known;
     }
-    let t = lesser(format, a.low, x, a, b, s);
-    if t <= b.low {
-        return t;
-    }
-    least_above(format, x, a, b, t)
+    let o = farther_first(format, x, a);
+    least_with(format, o.x, o.a, b, known)
 }
 
 // The b in a triple, where the ends crosswise make triples, with s and with t.

@@ -1,6 +1,5 @@
 -- The least power of two that divides no value of a run of m, so that half of it divides one: with ends in different binades, its exponent is the number of digits of the upper value; inside one binade, the number of low digits to drop until the highest significand and the number before the lowest agree, plus the binade's shift. Assumes nothing.
 use mathlib.Core.Path.{_≡_, sym, ap, _∙_, subst}
-use mathlib.Core.Logic.{inl, inr}
 use Prim.Native.Nat.{ℕ, _+_, _-_, _*_, _/_, _^_, _≤_, _<_, _∣_}
 use native.Mathlib.Nat.{le-refl, le-of-dvd, le-div-iff-mul-le, div-lt-iff-lt-mul, div-add-mod', dvd-of-mul-dvd-mul-right, mod-eq-zero-of-dvd, div-mul-le-self, dvd-refl, dvd-mul-left, mul-dvd-mul-right}
 use native.Mathlib.Omega.{arith}

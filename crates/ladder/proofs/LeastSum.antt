@@ -1,13 +1,13 @@
 -- The least b in a triple: the sum of the low ends where that is not below B, B's low end where that stands in a triple; a sum that is not below B stands in one where it is no more than one that does. Assumes nothing.
 use mathlib.Core.Path.{_≡_, sym, subst}
 use mathlib.Core.Logic.{inl, inr}
-use Prim.Native.Nat.{ℕ, _≤_, min}
+use Prim.Native.Nat.{ℕ, _-_, _≤_, min}
 use native.Mathlib.Nat.{le-refl, le-trans}
 use native.Mathlib.Omega.{arith}
 use Rattle.ladder.specs.Sum.{sum}
 use Rattle.ladder.specs.Solution.{Interval, In}
-use Rattle.ladder.specs.Narrowing.{HasB}
-use Rattle.ladder.specs.Search.{Least}
+use Rattle.ladder.specs.Narrowing.{HasX, HasB}
+use Rattle.ladder.specs.Search.{Never, Least}
 use Rattle.ladder.proofs.Cases.{le-or-lt}
 use Rattle.ladder.proofs.Sum.{sum-mono}
 
@@ -32,6 +32,16 @@ module _ (f e : ℕ) (X A B : Interval) where
         holds = record { x = v .x; a = v .a; solution = record { x-in = r .x-in; a-in = r .a-in; b-in = record { low = k .low; high = omega arith }; is = r .is } };
         least = λ z u. le-trans (k .high) (u .solution .b-in .low);
       }
+
+  -- no triple has one below t
+  pub none-below : (t : ℕ) → HasB f e X A B t → Never (HasX f e X A (record { low = B .low; high = t - 1 })) → Least (HasB f e X A B) t
+  none-below t w n = record {
+    holds = w;
+    least = λ y v. let r = v .solution in elim (le-or-lt t y) [
+      | inl g ↦ g
+      | inr g ↦ absurd (n (v .x) (record { a = v .a; b = y; solution = record { x-in = r .x-in; a-in = r .a-in; b-in = record { low = r .b-in .low; high = omega arith }; is = r .is } }))
+    ];
+  }
 
   -- one no higher than B's low end is the least
   pub floor-least : (t : ℕ) → t ≤ B .low → HasB f e X A B t → Least (HasB f e X A B) t

@@ -1,13 +1,24 @@
 -- `arith::extent::least_b` meets its contract: no sum is smaller than that of the low ends. Assumes nothing.
-use native.Mathlib.Nat.{le-refl}
+use mathlib.Core.Path.{_≡_, subst}
+use mathlib.Core.Logic.{_⊎_, inl, inr}
+use Prim.Native.Nat.{ℕ, _≤_}
 use native.Mathlib.Omega.{arith}
 use borrow.Author.Needs.{needs}
+use Rattle.ladder.proofs.Sum.{sum-comm}
 use Rattle.ladder.proofs.Solutions.{swap-b}
 use Rattle.ladder.proofs.LeastSum.{lows-least, floor-least}
-use Rattle.ladder.proofs.Staircase.{at-most-less}
-use Rattle.arith.specs.Searches.{span}
+use Rattle.arith.specs.declared.range.Range.{Range}
+use Rattle.arith.specs.declared.operand.Found.the-variants as Found
+use Rattle.arith.specs.Formats.{Sound, sum}
+use Rattle.arith.specs.Intervals.{Ends}
+use Rattle.arith.specs.Searches.{span, LeastOf, HasB}
 use Rattle.arith.proofs.extent.least_b.Statement.{statement}
 use Rattle.arith.proofs.extent.least_b.Tie as tie
+
+-- what holds of the operands in either order holds in the one chosen
+chosen : (P : Range → Range → Type 0) (x a y c : Range) → P x a → P a x → ((y ≡ x) × (c ≡ a)) ⊎ ((y ≡ a) × (c ≡ x)) → P y c
+chosen P x a y c p q (inl (h, k)) = rw (h, k) p
+chosen P x a y c p q (inr (h, k)) = rw (h, k) q
 
 add-ordinals-requires : tie.Need-add-ordinals-requires
 add-ordinals-requires c κs = search needs
@@ -19,41 +30,30 @@ returns c =
     let t = c .before .before .add-ordinals in
     lows-least (F .fraction) (F .exponent) (z .pre .0 .some) (span (z .args .x)) (span (z .args .a)) (span (z .args .b)) (t .result) (t .ensures) (z .args .known) (z .pre .6) (omega arith)
 
-lesser-requires : tie.Need-lesser-requires
-lesser-requires c κs =
-    let z = c .before .before .before in
-    let F = z .args .format in
-    let i = z .pre .6 .solution .x-in in
-    (z .pre .0, z .pre .2, z .pre .1, z .pre .3, le-refl (z .args .x .low), omega arith, swap-b (F .fraction) (F .exponent) (span (z .args .x)) (span (z .args .a)) (span (z .args .b)) _ (z .pre .6))
-
 returns-2 : tie.Need-returns-2
 returns-2 c =
-    let z = c .before .before .before .before .before .before in
+    let z = c .before .before .before .before .before in
     let F = z .args .format in
-    floor-least (F .fraction) (F .exponent) (span (z .args .x)) (span (z .args .a)) (span (z .args .b)) _ (c .if2 .taken) (swap-b (F .fraction) (F .exponent) (span (z .args .a)) (span (z .args .x)) (span (z .args .b)) _ (c .before .before .lesser .ensures .0))
+    floor-least (F .fraction) (F .exponent) (span (z .args .x)) (span (z .args .a)) (span (z .args .b)) (z .args .known) (c .if2 .taken) (z .pre .6)
 
-lesser-requires-2 : tie.Need-lesser-requires-2
-lesser-requires-2 c κs =
+farther-first-requires : tie.Need-farther-first-requires
+farther-first-requires c κs = search needs
+
+least-with-requires : tie.Need-least-with-requires
+least-with-requires c κs =
     let z = c .before .before .before .before .before .before in
     let F = z .args .format in
-    let i = z .pre .6 .solution .a-in in
-    (z .pre .0, z .pre .1, z .pre .2, z .pre .3, le-refl (z .args .a .low), omega arith, swap-b (F .fraction) (F .exponent) (span (z .args .a)) (span (z .args .x)) (span (z .args .b)) _ (c .before .before .lesser .ensures .0))
+    let b = z .args .b in
+    let r1 : b .low ≤ sum F (z .args .a .low) (z .args .x .high) = subst (λ (s : ℕ). b .low ≤ s) (sum-comm (F .fraction) (F .exponent) _ _) (z .pre .5) in
+    let r2 : b .low ≤ sum F (z .args .a .high) (z .args .x .low) = subst (λ (s : ℕ). b .low ≤ s) (sum-comm (F .fraction) (F .exponent) _ _) (z .pre .4) in
+    chosen (λ (X A : Range). Sound F × Ends F X × Ends F A × Ends F b × (b .low ≤ sum F (X .low) (A .high)) × (b .low ≤ sum F (X .high) (A .low)) × HasB F X A b (z .args .known)) (z .args .x) (z .args .a) _ _ (z .pre) (z .pre .0, z .pre .2, z .pre .1, z .pre .3, r1, r2, swap-b (F .fraction) (F .exponent) (span (z .args .x)) (span (z .args .a)) (span (z .args .b)) _ (z .pre .6)) (c .farther-first .ensures)
 
 returns-3 : tie.Need-returns-3
 returns-3 c =
-    let z = c .before .before .before .before .before .before .before .before .before in
+    let z = c .before .before .before .before .before .before .before in
     let F = z .args .format in
-    floor-least (F .fraction) (F .exponent) (span (z .args .x)) (span (z .args .a)) (span (z .args .b)) _ (c .if3 .taken) (c .before .before .lesser2 .ensures .0)
-
-least-above-requires : tie.Need-least-above-requires
-least-above-requires c κs =
-    let z = c .before .before .before .before .before .before .before .before .before in
-    let p = c .before .before .before .before .before .lesser .ensures in
-    let q = c .before .before .lesser2 .ensures in
-    (z .pre .0, z .pre .1, z .pre .2, z .pre .3, z .pre .4, z .pre .5, q .0, q .2, at-most-less (q .1) (p .2))
-
-returns-4 : tie.Need-returns-4
-returns-4 c = search needs
+    let r = c .least-with .result in
+    chosen (λ (X A : Range). LeastOf (HasB F X A (z .args .b)) (Found.At r) → LeastOf (HasB F (z .args .x) (z .args .a) (z .args .b)) (Found.At r)) (z .args .x) (z .args .a) _ _ (λ l. l) (λ l. record { holds = swap-b (F .fraction) (F .exponent) (span (z .args .a)) (span (z .args .x)) (span (z .args .b)) _ (l .holds); least = λ y v. l .least y (swap-b (F .fraction) (F .exponent) (span (z .args .x)) (span (z .args .a)) (span (z .args .b)) y v) }) (c .before .farther-first .ensures) (c .least-with .ensures)
 
 pub least-b-spec : {M : Type 1} → statement M
 least-b-spec =
@@ -61,9 +61,7 @@ least-b-spec =
     (tie.spec
     add-ordinals-requires
     returns
-    lesser-requires
     returns-2
-    lesser-requires-2
-    returns-3
-    least-above-requires
-    returns-4)
+    farther-first-requires
+    least-with-requires
+    returns-3)
