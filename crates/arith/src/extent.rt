@@ -44,7 +44,7 @@ fn lesser_before(format: Format, x: Range, a: Range, b: Range, known: u64) -> u6
     lesser(format, z - 1, x, a, b, known)
 }
 
-// The least b in a triple, where the one known is above b's low end and no more than the least sums with the low ends.
+// The least b in a triple, where the one known is no more than the least sums with the low ends: b's low end where that stands in a triple, else the least of the sums that decide.
 fn least_above(format: Format, x: Range, a: Range, b: Range, known: u64) -> u64
     requires { ⌜ (Sound format) × (Ends format x) × (Ends format a) × (Ends format b) × (b .low ≤ sum format (x .low) (a .high)) × (b .low ≤ sum format (x .high) (a .low)) × (HasB format x a b known) × (AtMost format (b .low) x (a .low) known) × (AtMost format (b .low) a (x .low) known) ⌝ }
     ensures { λ r. ⌜ LeastOf (HasB format x a b) (Found.At r) ⌝ }
