@@ -2,7 +2,7 @@
 use mathlib.Core.Path.{_≡_, subst}
 use Prim.Native.Nat.{ℕ, _-_, _≤_, _<_}
 use native.Mathlib.Omega.{arith}
-use Rattle.ladder.specs.Search.{Bounded, NoMultiple, SomeMultiple, raised, lowered, around}
+use Rattle.ladder.specs.Search.{Bounded, NoMultiple, SomeMultiple, raised, lowered, zero-in}
 use Rattle.ladder.proofs.Solutions.{kept-x, kept-corner}
 use Rattle.ladder.proofs.Clamp.{raised-kept, raised-given, raised-bounded, raised-fine, lowered-kept, lowered-given, lowered-bounded, lowered-fine}
 use Rattle.arith.specs.declared.format.Format.{Format}
@@ -26,7 +26,7 @@ same-corner {F} {X} {A} {B} {O} s (Corner.At x a b) h = kept-corner (F .fraction
 same-corner {F} {X} {A} {B} {O} s Corner.Absent h = λ y w. h y (kept-x (F .fraction) (F .exponent) (span X) (span A) (span B) (span (O .x)) (span (O .a)) (span B) (s .kept) y w)
 
 pub same-self : {F : Format} {X A B : Range} → Sound F → Ends F X → Ends F A → B .low ≤ F .sign → F .sign ≤ B .high → SameTriples F X A B (record { x = X; a = A })
-same-self ok nx na l h = record { x-ends = nx; a-ends = na; kept = λ x a b s. s; given = λ x a b s. s; fine = around (omega (arith, ok .sign)) (omega (arith, ok .sign)) }
+same-self ok nx na l h = record { x-ends = nx; a-ends = na; kept = λ x a b s. s; given = λ x a b s. s; fine = zero-in (omega (arith, ok .sign)) (omega (arith, ok .sign)) }
 
 -- ---- the clamped operands
 module _ (F : Format) (ok : Sound F) (k : ℕ) (X A B : Range) (O : Operands) (nx : Ends F X) (na : Ends F A) (nb : Ends F B) where
@@ -36,20 +36,20 @@ module _ (F : Format) (ok : Sound F) (k : ℕ) (X A B : Range) (O : Operands) (n
   abbrev e : ℕ
   e = F .exponent
 
-  pub same-raised : F .sign < B .low → NoMultiple f k (B .low - F .sign) (B .high - F .sign) → SomeMultiple f k (B .low - F .sign) (B .high - F .sign) → span (O .x) ≡ raised f e k (span X) → span (O .a) ≡ raised f e k (span A) → SameTriples F X A B O
+  pub same-raised : F .sign < B .low → NoMultiple f k (B .low - F .sign) (B .high - F .sign) → SomeMultiple f (k - 1) (B .low - F .sign) (B .high - F .sign) → span (O .x) ≡ raised f e k (span X) → span (O .a) ≡ raised f e k (span A) → SameTriples F X A B O
   same-raised up free one p q = record {
     x-ends = ends-of (rw p (raised-bounded f e (ok .some) k (span X) (bounded nx)));
     a-ends = ends-of (rw q (raised-bounded f e (ok .some) k (span A) (bounded na)));
     kept = rw (p, q) (raised-kept f e (ok .some) k (span X) (span A) (span B) (omega (arith, ok .sign)) (nb .high) (subst (λ (s : ℕ). NoMultiple f k (B .low - s) (B .high - s)) (ok .sign) free));
     given = rw (p, q) (raised-given f e (ok .some) k (span X) (span A) (span B));
-    fine = rw (p, q) (raised-fine f e (ok .some) k (span X) (span A) (span B) (omega (arith, ok .sign)) (subst (λ (s : ℕ). SomeMultiple f k (B .low - s) (B .high - s)) (ok .sign) one));
+    fine = rw (p, q) (raised-fine f e (ok .some) k (span X) (span A) (span B) (omega (arith, ok .sign)) (subst (λ (s : ℕ). SomeMultiple f (k - 1) (B .low - s) (B .high - s)) (ok .sign) one));
   }
 
-  pub same-lowered : B .high < F .sign → NoMultiple f k (F .sign - B .high) (F .sign - B .low) → SomeMultiple f k (F .sign - B .high) (F .sign - B .low) → span (O .x) ≡ lowered f e k (span X) → span (O .a) ≡ lowered f e k (span A) → SameTriples F X A B O
+  pub same-lowered : B .high < F .sign → NoMultiple f k (F .sign - B .high) (F .sign - B .low) → SomeMultiple f (k - 1) (F .sign - B .high) (F .sign - B .low) → span (O .x) ≡ lowered f e k (span X) → span (O .a) ≡ lowered f e k (span A) → SameTriples F X A B O
   same-lowered down free one p q = record {
     x-ends = ends-of (rw p (lowered-bounded f e (ok .some) k (span X) (bounded nx)));
     a-ends = ends-of (rw q (lowered-bounded f e (ok .some) k (span A) (bounded na)));
     kept = rw (p, q) (lowered-kept f e (ok .some) k (span X) (span A) (span B) (bounded nx) (bounded na) (bounded nb) (omega (arith, ok .sign)) (subst (λ (s : ℕ). NoMultiple f k (s - B .high) (s - B .low)) (ok .sign) free));
     given = rw (p, q) (lowered-given f e (ok .some) k (span X) (span A) (span B) (bounded nx) (bounded na) (bounded nb));
-    fine = rw (p, q) (lowered-fine f e (ok .some) k (span X) (span A) (span B) (bounded nx) (bounded na) (bounded nb) (omega (arith, ok .sign)) (subst (λ (s : ℕ). SomeMultiple f k (s - B .high) (s - B .low)) (ok .sign) one));
+    fine = rw (p, q) (lowered-fine f e (ok .some) k (span X) (span A) (span B) (bounded nx) (bounded na) (bounded nb) (omega (arith, ok .sign)) (subst (λ (s : ℕ). SomeMultiple f (k - 1) (s - B .high) (s - B .low)) (ok .sign) one));
   }

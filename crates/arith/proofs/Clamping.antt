@@ -85,18 +85,18 @@ module _ (f q lo hi : ℕ) (is : q ≡ hi / 2 ^ f) where
       binade-free f j (q - 1) (lo - base) (hi - base) (inr (omega arith)) (omega arith) (omega (arith, pow-pos f)) e m (omega arith) (omega arith) d
 
   -- ---- and half of that power divides one
-  pub some-wide : (lo / 2 ^ f ≡ q → ⊥) → lo ≤ hi → SomeMultiple f (f + q) lo hi
+  pub some-wide : (lo / 2 ^ f ≡ q → ⊥) → lo ≤ hi → SomeMultiple f (f + q - 1) lo hi
   some-wide n h =
       let l : lo / 2 ^ f < q = omega (arith, shr-mono f h, n) in
       binade-some f q lo hi (omega arith) (le-of-lt (div-lt-iff-lt-mul (pow-pos f) .0 l)) (field f q hi is .0)
 
-  pub some-low : (j : ℕ) → q ≡ 0 → 0 < j → (lo - 1) / 2 ^ (j - 1) < hi / 2 ^ (j - 1) → SomeMultiple f j lo hi
+  pub some-low : (j : ℕ) → q ≡ 0 → 0 < j → (lo - 1) / 2 ^ (j - 1) < hi / 2 ^ (j - 1) → SomeMultiple f (j - 1) lo hi
   some-low j z p l =
       let b : hi < 0 * 2 ^ f + 2 ^ f = subst (λ (x : ℕ). hi < x * 2 ^ f + 2 ^ f) z (field f q hi is .1) in
       let t = digits-some f j 0 lo hi (inl refl) (omega arith) p l in
       record { m = t .m; low = omega (arith, t .low); high = omega (arith, t .high); divides = subst (λ (x : ℕ). 2 ^ (x - 1) ∣ magnitude f (t .m)) (add-none j) (t .divides) }
 
-  pub some-high : (j base : ℕ) → lo / 2 ^ f ≡ q → (q ≡ 0 → ⊥) → base ≡ (q - 1) * 2 ^ f → 0 < j → (lo - base - 1) / 2 ^ (j - 1) < (hi - base) / 2 ^ (j - 1) → SomeMultiple f (j + (q - 1)) lo hi
+  pub some-high : (j base : ℕ) → lo / 2 ^ f ≡ q → (q ≡ 0 → ⊥) → base ≡ (q - 1) * 2 ^ f → 0 < j → (lo - base - 1) / 2 ^ (j - 1) < (hi - base) / 2 ^ (j - 1) → SomeMultiple f (j + (q - 1) - 1) lo hi
   some-high j base o n b p l =
       let u = base-next f q base n b in
       let v = field f q lo (sym o) in

@@ -24,7 +24,7 @@ fn differing(p: u64, q: u64) -> u64
 // A k such that for no m from lo to hi the value is a multiple of 2^k units, but for one it is of half of that.
 pub(crate) fn granularity(fraction: u64, lo: u64, hi: u64) -> u64
     requires { ⌜ (Fraction fraction) × (0 < lo) × (lo ≤ hi) ⌝ }
-    ensures { λ k. ⌜ (NoMultiple fraction k lo hi) × (SomeMultiple fraction k lo hi) ⌝ }
+    ensures { λ k. ⌜ (NoMultiple fraction k lo hi) × (SomeMultiple fraction (k - 1) lo hi) ⌝ }
 {
     let field = shift_right(hi, fraction);
     if shift_right(lo, fraction) != field {

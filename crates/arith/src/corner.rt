@@ -127,7 +127,7 @@ fn clamp(format: Format, x: Range, a: Range, b: Range) -> Operands
 }
 
 // The corner by the clamp and the walk.
-pub(crate) fn search_corner(format: Format, x: Range, a: Range, b: Range) -> Corner
+pub(crate) fn clamped_corner(format: Format, x: Range, a: Range, b: Range) -> Corner
     requires { ⌜ (Sound format) × (Ends format x) × (Ends format a) × (Ends format b) × (b .low ≤ b .high) ⌝ }
     ensures { λ r. ⌜ CornerOf format x a b r ⌝ }
 {
@@ -150,5 +150,5 @@ pub(crate) fn corner_of(format: Format, x: Range, a: Range, b: Range) -> Corner
             };
         }
     }
-    search_corner(format, x, a, b)
+    clamped_corner(format, x, a, b)
 }

@@ -7,7 +7,7 @@ ghost use Rattle.arith.specs.Intervals.{Ends};
 ghost use Rattle.arith.specs.Searches.{LeastOf, Spans, Triple, HasB, AtMost, AtMostBefore};
 use crate::corner::Corner;
 use crate::corner::Operands;
-use crate::corner::search_corner;
+use crate::corner::clamped_corner;
 use crate::exact::distance_from_zero;
 use crate::format::Format;
 use crate::hardware::add_ordinals;
@@ -53,7 +53,7 @@ fn least_above(format: Format, x: Range, a: Range, b: Range, known: u64) -> u64
         low: b.low,
         high: b.low,
     };
-    if let Corner::At { x: _, a: _, b: s } = search_corner(format, x, a, low) {
+    if let Corner::At { x: _, a: _, b: s } = clamped_corner(format, x, a, low) {
         return s;
     }
     if format.sign <= b.low {
@@ -76,7 +76,7 @@ fn least_with(format: Format, x: Range, a: Range, b: Range, known: u64) -> u64
         low: b.low,
         high: s - 1,
     };
-    let Corner::At { x: _, a: _, b: _ } = search_corner(format, x, a, below) else {
+    let Corner::At { x: _, a: _, b: _ } = clamped_corner(format, x, a, below) else {
         return s;
     };
     let t = lesser(format, a.low, x, a, b, s);

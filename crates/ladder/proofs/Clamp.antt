@@ -10,7 +10,7 @@ use Rattle.ladder.specs.Magnitude.{magnitude}
 use Rattle.ladder.specs.Ordinal.{sign, infinity, above, below, mirrored, Finite}
 use Rattle.ladder.specs.Sum.{gains, losses, sum}
 use Rattle.ladder.specs.Solution.{Interval, In, Solution}
-use Rattle.ladder.specs.Search.{Bounded, NoMultiple, SomeMultiple, Fine, over, under, raised, lowered, reflection}
+use Rattle.ladder.specs.Search.{Bounded, NoMultiple, SomeMultiple, Fine, positive, negative, raised, lowered, reflection}
 use Rattle.ladder.proofs.Cases.{le-or-lt}
 use Rattle.ladder.proofs.Magnitude.{magnitude-le}
 use Rattle.ladder.proofs.Multiples.{round-dvd, magnitude-dvd}
@@ -81,8 +81,8 @@ module _ (f e : ℕ) (some : 1 ≤ f) where
   raised-bounded k I n = let l = n .low in record { low = record { low = omega (arith, infinity-lt-sign f e); high = omega (arith, infinity-lt-sign f e, pow-pos f) }; high = n .high }
 
   -- and leaves nothing too coarse
-  pub raised-fine : (k : ℕ) (X A B : Interval) → s < B .low → SomeMultiple f k (B .low - s) (B .high - s) → Fine f e (raised f e k X) (raised f e k A) B
-  raised-fine k X A B up t = over k up t (omega arith) (omega arith)
+  pub raised-fine : (k : ℕ) (X A B : Interval) → s < B .low → SomeMultiple f (k - 1) (B .low - s) (B .high - s) → Fine f e (raised f e k X) (raised f e k A) B
+  raised-fine k X A B up t = positive k up t (omega arith) (omega arith)
 
   -- ---- B below zero: the mirror image
   module _ (k : ℕ) (X A B : Interval) (nx : Bounded f e X) (na : Bounded f e A) (nb : Bounded f e B) where
@@ -105,11 +105,11 @@ module _ (f e : ℕ) (some : 1 ≤ f) where
     pub lowered-given : Kept f e (lowered f e k X) (lowered f e k A) B X A B
     lowered-given x a b r = record { x-in = of-lowered X nx x (r .x-in); a-in = of-lowered A na a (r .a-in); b-in = r .b-in; is = r .is }
 
-    pub lowered-fine : B .high < s → SomeMultiple f k (s - B .high) (s - B .low) → Fine f e (lowered f e k X) (lowered f e k A) B
+    pub lowered-fine : B .high < s → SomeMultiple f (k - 1) (s - B .high) (s - B .low) → Fine f e (lowered f e k X) (lowered f e k A) B
     lowered-fine down t =
         let x = finite-twice f e (X .high) (nx .high) in
         let a = finite-twice f e (A .high) (na .high) in
-        under k down t (omega arith) (omega arith)
+        negative k down t (omega arith) (omega arith)
 
   pub lowered-bounded : (k : ℕ) (I : Interval) → Bounded f e I → Bounded f e (lowered f e k I)
   lowered-bounded k I n = mirror-bounded f e (raised f e k (reflection f e I)) (raised-bounded k (reflection f e I) (mirror-bounded f e I n))

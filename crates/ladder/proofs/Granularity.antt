@@ -29,7 +29,7 @@ module _ (f : ℕ) where
       omega (arith, magnitude-power k, magnitude-lt f m ((k + 1) * 2 ^ f) (omega arith))
 
   -- but the power of two at which its binade begins is a multiple of half of that
-  pub binade-some : (q lo hi : ℕ) → 0 < q → lo ≤ q * 2 ^ f → q * 2 ^ f ≤ hi → SomeMultiple f (f + q) lo hi
+  pub binade-some : (q lo hi : ℕ) → 0 < q → lo ≤ q * 2 ^ f → q * 2 ^ f ≤ hi → SomeMultiple f (f + q - 1) lo hi
   binade-some q lo hi p l h =
       let is : magnitude f (q * 2 ^ f) ≡ 2 ^ (f + q - 1) = ap (magnitude f) (ap (λ (x : ℕ). x * 2 ^ f) (omega arith)) ∙ magnitude-power (q - 1) ∙ ap (λ (x : ℕ). 2 ^ x) (omega arith) in
       record { m = q * 2 ^ f; low = l; high = h; divides = rw is (dvd-refl (2 ^ (f + q - 1))) }
@@ -43,7 +43,7 @@ module _ (f : ℕ) where
       gapless (lo - 1) hi s j e (omega arith) (omega arith) (dvd-of-mul-dvd-mul-right (2 ^ j) (pow-pos k) d')
 
   -- but where they differ in the highest of these digits, one of the significands is a multiple of half of that
-  pub digits-some : (j k lo hi : ℕ) → Counted (2 ^ f) k lo → hi ≤ 2 * 2 ^ f → 0 < j → (lo - 1) / 2 ^ (j - 1) < hi / 2 ^ (j - 1) → SomeMultiple f (j + k) (k * 2 ^ f + lo) (k * 2 ^ f + hi)
+  pub digits-some : (j k lo hi : ℕ) → Counted (2 ^ f) k lo → hi ≤ 2 * 2 ^ f → 0 < j → (lo - 1) / 2 ^ (j - 1) < hi / 2 ^ (j - 1) → SomeMultiple f (j + k - 1) (k * 2 ^ f + lo) (k * 2 ^ f + hi)
   digits-some j k lo hi c h p l =
       let d = 2 ^ (j - 1) in
       let t = hi / d * d in

@@ -10,7 +10,7 @@ use Rattle.ladder.specs.Magnitude.{magnitude, shift, significand}
 use Rattle.ladder.specs.Ordinal.{sign, infinity, above, below, mirrored}
 use Rattle.ladder.specs.Sum.{rounded, gains, losses, sum}
 use Rattle.ladder.specs.Solution.{Interval}
-use Rattle.ladder.specs.Search.{Bounded, reflection, SomeMultiple, Skips, Fine, around, over, under}
+use Rattle.ladder.specs.Search.{Bounded, reflection, SomeMultiple, Skips, Fine, zero-in, positive, negative}
 use Rattle.ladder.proofs.Cases.{le-or-lt}
 use Rattle.ladder.proofs.Magnitude.{magnitude-parts, magnitude-suc, lt-of-magnitude, shift-le}
 use Rattle.ladder.proofs.Multiples.{pow-dvd, times-dvd}
@@ -94,7 +94,7 @@ module _ (f e : ℕ) (some : 1 ≤ f) where
         ]
 
     -- ---- below zero: the step after y divides z, which is larger in size, and by the clamp a value of B
-    module _ (k : ℕ) (up : s < B .low) (t : SomeMultiple f k (B .low - s) (B .high - s)) where
+    module _ (k : ℕ) (up : s < B .low) (t : SomeMultiple f (k - 1) (B .low - s) (B .high - s)) where
       skips-below : (z y : ℕ) → y < s → s < y + (k + 1) * 2 ^ f → Skips f e B z y → ⊥
       skips-below z y l c w =
           let b = s + t .m in
@@ -125,8 +125,8 @@ module _ (f e : ℕ) (some : 1 ≤ f) where
       above-zero z y c w = elim (le-or-lt s y) [ inl o ↦ o | inr o ↦ absurd (skips-below z y o c w) ]
 
       -- up, then down
-      over-up : (y q c : ℕ) → c < q → s < y + (k + 1) * 2 ^ f → s < c + (k + 1) * 2 ^ f → Skips f e B q y → Skips f e B (y + 1) c → ⊥
-      over-up y q c l i j v w =
+      positive-up : (y q c : ℕ) → c < q → s < y + (k + 1) * 2 ^ f → s < c + (k + 1) * 2 ^ f → Skips f e B q y → Skips f e B (y + 1) c → ⊥
+      positive-up y q c l i j v w =
           let sy = above-zero q y i v in
           let sc = above-zero (y + 1) c j w in
           elim (le-or-lt c (y + 1)) [
@@ -135,8 +135,8 @@ module _ (f e : ℕ) (some : 1 ≤ f) where
           ]
 
       -- down, then up
-      over-down : (p c y : ℕ) → p ≤ y → s < y + (k + 1) * 2 ^ f → s < c + (k + 1) * 2 ^ f → Skips f e B p c → Skips f e B c y → ⊥
-      over-down p c y l i j v w =
+      positive-down : (p c y : ℕ) → p ≤ y → s < y + (k + 1) * 2 ^ f → s < c + (k + 1) * 2 ^ f → Skips f e B p c → Skips f e B c y → ⊥
+      positive-down p c y l i j v w =
           let sy = above-zero c y i w in
           let sc = above-zero p c j v in
           elim (le-or-lt y c) [
@@ -148,8 +148,8 @@ module _ (f e : ℕ) (some : 1 ≤ f) where
           ]
 
   -- ---- zero inside B: no number lies between two neighbours
-  pub around-none : (B : Interval) → B .low ≤ s → s ≤ B .high → (z y : ℕ) → z ≤ 2 * s → Skips f e B z y → ⊥
-  around-none B l h z y r w =
+  pub zero-in-none : (B : Interval) → B .low ≤ s → s ≤ B .high → (z y : ℕ) → z ≤ 2 * s → Skips f e B z y → ⊥
+  zero-in-none B l h z y r w =
       let o = above-none f e s (le-refl s) in
       let o' = below-none f e s (le-refl s) in
       let u = short-value z y s (omega arith) (omega arith) (omega (arith, w .short)) in
@@ -173,33 +173,33 @@ module _ (f e : ℕ) (some : 1 ≤ f) where
   module _ (X A B : Interval) (nx : Bounded f e X) (na : Bounded f e A) (nb : Bounded f e B) where
     -- up past B with q, then down short of it
     pub once-up : Fine f e X A B → (y q c : ℕ) → X .low ≤ y → y + 1 ≤ X .high → A .low ≤ c → c < q → q ≤ A .high → Skips f e B q y → Skips f e B (y + 1) c → ⊥
-    once-up (around l h) y q c i i' j o j' v w = around-none B l h q y (omega (arith, na .high .high, infinity-lt-sign f e)) v
-    once-up (over k u t x a) y q c i i' j o j' v w = over-up B nb (omega (arith, t .low, t .high)) k u t y q c o (omega arith) (omega arith) v w
-    once-up (under k u t x a) y q c i i' j o j' v w =
+    once-up (zero-in l h) y q c i i' j o j' v w = zero-in-none B l h q y (omega (arith, na .high .high, infinity-lt-sign f e)) v
+    once-up (positive k u t x a) y q c i i' j o j' v w = positive-up B nb (omega (arith, t .low, t .high)) k u t y q c o (omega arith) (omega arith) v w
+    once-up (negative k u t x a) y q c i i' j o j' v w =
         let r = infinity-lt-sign f e in
         let xh = nx .high .high in
         let ah = na .high .high in
         let bh = nb .high .high in
         let bl = nb .low .high in
         let R = reflection f e B in
-        let m : SomeMultiple f k (R .low - s) (R .high - s) = record { m = t .m; low = omega (arith, t .low); high = omega (arith, t .high); divides = t .divides } in
+        let m : SomeMultiple f (k - 1) (R .low - s) (R .high - s) = record { m = t .m; low = omega (arith, t .low); high = omega (arith, t .high); divides = t .divides } in
         let v' = mirror-skips B q y (omega arith) (omega arith) (omega arith) (omega arith) v in
         let w' = mirror-skips B (y + 1) c (omega arith) (omega arith) (omega arith) (omega arith) w in
-        over-down R (mirror-bounded f e B nb) (omega (arith, t .low, t .high)) k (omega arith) m (mirrored f e q) (mirrored f e (y + 1)) (mirrored f e (c + 1)) (omega arith) (omega arith) (omega arith) v' w'
+        positive-down R (mirror-bounded f e B nb) (omega (arith, t .low, t .high)) k (omega arith) m (mirrored f e q) (mirrored f e (y + 1)) (mirrored f e (c + 1)) (omega arith) (omega arith) (omega arith) v' w'
 
     -- down short of B with p, then up past it
     pub once-down : Fine f e X A B → (p c y : ℕ) → X .low ≤ p → p ≤ y → y + 1 ≤ X .high → A .low ≤ c → c + 1 ≤ A .high → Skips f e B p c → Skips f e B c y → ⊥
-    once-down (around l h) p c y i o i' j j' v w = around-none B l h p c (omega (arith, nx .high .high, infinity-lt-sign f e)) v
-    once-down (over k u t x a) p c y i o i' j j' v w = over-down B nb (omega (arith, t .low, t .high)) k u t p c y o (omega arith) (omega arith) v w
-    once-down (under k u t x a) p c y i o i' j j' v w =
+    once-down (zero-in l h) p c y i o i' j j' v w = zero-in-none B l h p c (omega (arith, nx .high .high, infinity-lt-sign f e)) v
+    once-down (positive k u t x a) p c y i o i' j j' v w = positive-down B nb (omega (arith, t .low, t .high)) k u t p c y o (omega arith) (omega arith) v w
+    once-down (negative k u t x a) p c y i o i' j j' v w =
         let r = infinity-lt-sign f e in
         let xh = nx .high .high in
         let ah = na .high .high in
         let bh = nb .high .high in
         let bl = nb .low .high in
         let R = reflection f e B in
-        let m : SomeMultiple f k (R .low - s) (R .high - s) = record { m = t .m; low = omega (arith, t .low); high = omega (arith, t .high); divides = t .divides } in
+        let m : SomeMultiple f (k - 1) (R .low - s) (R .high - s) = record { m = t .m; low = omega (arith, t .low); high = omega (arith, t .high); divides = t .divides } in
         let v' = mirror-skips B p c (omega arith) (omega arith) (omega arith) (omega arith) v in
         let w' = mirror-skips B c y (omega arith) (omega arith) (omega arith) (omega arith) w in
         let at : mirrored f e (c + 1) + 1 ≡ mirrored f e c = omega arith in
-        over-up R (mirror-bounded f e B nb) (omega (arith, t .low, t .high)) k (omega arith) m (mirrored f e (c + 1)) (mirrored f e p) (mirrored f e (y + 1)) (omega arith) (omega arith) (omega arith) v' (subst (λ (z : ℕ). Skips f e R z (mirrored f e (y + 1))) (sym at) w')
+        positive-up R (mirror-bounded f e B nb) (omega (arith, t .low, t .high)) k (omega arith) m (mirrored f e (c + 1)) (mirrored f e p) (mirrored f e (y + 1)) (omega arith) (omega arith) (omega arith) v' (subst (λ (z : ℕ). Skips f e R z (mirrored f e (y + 1))) (sym at) w')

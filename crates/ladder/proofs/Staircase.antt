@@ -17,7 +17,7 @@ use Rattle.ladder.proofs.Multiples.{pow-dvd}
 use Rattle.ladder.proofs.Ordinals.{infinity-lt-sign, above-none, below-none}
 use Rattle.ladder.proofs.Solutions.{finite-in, mirror-bounded}
 use Rattle.ladder.proofs.Sum.{rounded-mono, rounded-value, sum-comm, sum-mono}
-use Rattle.ladder.proofs.Skips.{step-dvd, rounded-shift, short-value, past-value, skips-none, around-none, mirror-skips}
+use Rattle.ladder.proofs.Skips.{step-dvd, rounded-shift, short-value, past-value, skips-none, zero-in-none, mirror-skips}
 
 -- the next multiple of g is g further on
 apart : (g u v : ℕ) → g ∣ u → g ∣ v → u < v → u + g ≤ v
@@ -256,10 +256,10 @@ module _ (f e : ℕ) (some : 1 ≤ f) where
         nb : Bounded f e B
         nb = record { low = n; high = n }
 
-        over-case : s < b → AtMost f e b X (A .low) t → AtMost f e b A (X .low) t → t ≤ sum f e x a
-        over-case up (none q) m = absurd (q (X .high) (record { inside = record { low = omega arith; high = le-refl (X .high) }; enough = r2 }))
-        over-case up (least y l h) (none q) = absurd (q (A .high) (record { inside = record { low = omega arith; high = le-refl (A .high) }; enough = omega (arith, r1, sum-comm f e (A .high) (X .low)) }))
-        over-case up (least y l h) (least z m k) = elim (le-or-lt s (x - 1)) [
+        positive-case : s < b → AtMost f e b X (A .low) t → AtMost f e b A (X .low) t → t ≤ sum f e x a
+        positive-case up (none q) m = absurd (q (X .high) (record { inside = record { low = omega arith; high = le-refl (X .high) }; enough = r2 }))
+        positive-case up (least y l h) (none q) = absurd (q (A .high) (record { inside = record { low = omega arith; high = le-refl (A .high) }; enough = omega (arith, r1, sum-comm f e (A .high) (X .low)) }))
+        positive-case up (least y l h) (least z m k) = elim (le-or-lt s (x - 1)) [
           | inl o ↦ elim (le-or-lt s (a - 1)) [
             | inl o' ↦ elim (le-or-lt (x - 1) a) [
               | inl q ↦ absurd (skips-none f e some B nb (le-refl b) a (x - 1) o q k1)
@@ -270,10 +270,10 @@ module _ (f e : ℕ) (some : 1 ≤ f) where
           | inr o ↦ omega (arith, low-best X A nx na no-sum up y l x a i j hx ha (omega arith) g k1 w, h)
         ]
 
-        under-case : b < s → AtMost f e b X (A .low) t → AtMost f e b A (X .low) t → t ≤ sum f e x a
-        under-case down (none q) m = absurd (q (X .high) (record { inside = record { low = omega arith; high = le-refl (X .high) }; enough = r2 }))
-        under-case down (least y l h) (none q) = absurd (q (A .high) (record { inside = record { low = omega arith; high = le-refl (A .high) }; enough = omega (arith, r1, sum-comm f e (A .high) (X .low)) }))
-        under-case down (least y l h) (least z m k) = elim (le-or-lt s (x - 1)) [
+        negative-case : b < s → AtMost f e b X (A .low) t → AtMost f e b A (X .low) t → t ≤ sum f e x a
+        negative-case down (none q) m = absurd (q (X .high) (record { inside = record { low = omega arith; high = le-refl (X .high) }; enough = r2 }))
+        negative-case down (least y l h) (none q) = absurd (q (A .high) (record { inside = record { low = omega arith; high = le-refl (A .high) }; enough = omega (arith, r1, sum-comm f e (A .high) (X .low)) }))
+        negative-case down (least y l h) (least z m k) = elim (le-or-lt s (x - 1)) [
           | inl o ↦ high-best X A nx na no-sum down z m t k (p3 down z m) x a i j hx ha (omega arith) k1 w (omega arith)
           | inr o ↦ elim (le-or-lt s (a - 1)) [
             | inl o' ↦ omega (arith, high-best A X na nx swapped down y l t h (p4 down y l) a x j i ha hx (omega arith) k2 (omega (arith, sum-comm f e (x - 1) a)) (omega (arith, sum-comm f e x a)), sum-comm f e a x)
@@ -294,10 +294,10 @@ module _ (f e : ℕ) (some : 1 ≤ f) where
 
         stuck : t ≤ sum f e x a
         stuck = elim (trichotomy b s) [
-          | inl o ↦ under-case o p1 p2
+          | inl o ↦ negative-case o p1 p2
           | inr r ↦ elim r [
-            | inl o ↦ absurd (around-none f e some B (omega arith) (omega arith) a (x - 1) (omega (arith, na .high .high, infinity-lt-sign f e)) k1)
-            | inr o ↦ over-case o p1 p2
+            | inl o ↦ absurd (zero-in-none f e some B (omega arith) (omega arith) a (x - 1) (omega (arith, na .high .high, infinity-lt-sign f e)) k1)
+            | inr o ↦ positive-case o p1 p2
           ]
         ]
 

@@ -84,12 +84,12 @@ reflection f e I = record { low = mirrored f e (I .high); high = mirrored f e (I
 abbrev pub NoMultiple : ℕ → ℕ → ℕ → ℕ → Type 0
 NoMultiple f k lo hi = (m : ℕ) → lo ≤ m → m ≤ hi → 2 ^ k ∣ magnitude f m → ⊥
 
--- for one m from lo to hi the value is a multiple of half of 2^k units, of one unit where k is 0
+-- for some m from lo to hi it is
 pub record SomeMultiple (f k lo hi : ℕ) : Type 0 where
   pub m : ℕ
   pub low : lo ≤ m
   pub high : m ≤ hi
-  pub divides : 2 ^ (k - 1) ∣ magnitude f m
+  pub divides : 2 ^ k ∣ magnitude f m
 
 -- without the values below zero of 2^(k + f) units and more: from there on every value is a multiple of 2^k
 abbrev pub raised : ℕ → ℕ → ℕ → Interval → Interval
@@ -101,6 +101,6 @@ lowered f e k I = reflection f e (raised f e k (reflection f e I))
 
 -- nothing in X or A is too coarse for B: with B above zero, and a value of B that is a multiple of half of 2^k units, no operand lies 2^(k + f) units or more below zero; with B below zero the mirror image; with zero in B nothing is asked
 pub data Fine (f e : ℕ) (X A B : Interval) : Type 0 where
-  around : B .low ≤ sign f e → sign f e ≤ B .high → Fine f e X A B
-  over : (k : ℕ) → sign f e < B .low → SomeMultiple f k (B .low - sign f e) (B .high - sign f e) → sign f e < X .low + (k + 1) * 2 ^ f → sign f e < A .low + (k + 1) * 2 ^ f → Fine f e X A B
-  under : (k : ℕ) → B .high < sign f e → SomeMultiple f k (sign f e - B .high) (sign f e - B .low) → X .high < sign f e + (k + 1) * 2 ^ f → A .high < sign f e + (k + 1) * 2 ^ f → Fine f e X A B
+  zero-in : B .low ≤ sign f e → sign f e ≤ B .high → Fine f e X A B
+  positive : (k : ℕ) → sign f e < B .low → SomeMultiple f (k - 1) (B .low - sign f e) (B .high - sign f e) → sign f e < X .low + (k + 1) * 2 ^ f → sign f e < A .low + (k + 1) * 2 ^ f → Fine f e X A B
+  negative : (k : ℕ) → B .high < sign f e → SomeMultiple f (k - 1) (sign f e - B .high) (sign f e - B .low) → X .high < sign f e + (k + 1) * 2 ^ f → A .high < sign f e + (k + 1) * 2 ^ f → Fine f e X A B

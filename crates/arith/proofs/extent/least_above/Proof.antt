@@ -19,11 +19,11 @@ use Rattle.arith.proofs.extent.least_above.Tie as tie
 no-sum : (c : tie.After-enum-told) → let z = c .before .before .before .args in (x a : ℕ) → In (span (z .x)) x → In (span (z .a)) a → sum (z .format) x a ≡ z .b .low → ⊥
 no-sum c x a i j h =
     let z = c .before .before .before .args in
-    let n : CornerOf (z .format) (z .x) (z .a) (record { low = z .b .low; high = z .b .low }) Corner.Absent = rw (c .enum-told .given .1) at (c .before .before .search-corner .ensures) in
+    let n : CornerOf (z .format) (z .x) (z .a) (record { low = z .b .low; high = z .b .low }) Corner.Absent = rw (c .enum-told .given .1) at (c .before .before .clamped-corner .ensures) in
     n x (record { a = a; b = z .b .low; solution = record { x-in = i; a-in = j; b-in = record { low = le-refl (z .b .low); high = le-refl (z .b .low) }; is = h } })
 
-search-corner-requires : tie.Need-search-corner-requires
-search-corner-requires c κs = search needs
+clamped-corner-requires : tie.Need-clamped-corner-requires
+clamped-corner-requires c κs = search needs
 
 enum-known-s : tie.Need-enum-known-s
 enum-known-s c = search needs
@@ -33,7 +33,7 @@ returns c =
     let z = c .before .before .before .before in
     let F = z .args .format in
     let g = c .before .s .given in
-    let l : CornerOf F (z .args .x) (z .args .a) (record { low = z .args .b .low; high = z .args .b .low }) (Corner.At (g .0 .0) (g .0 .1 .0) (g .0 .1 .1 .0)) = rw (g .1) at (c .before .before .before .search-corner .ensures) in
+    let l : CornerOf F (z .args .x) (z .args .a) (record { low = z .args .b .low; high = z .args .b .low }) (Corner.At (g .0 .0) (g .0 .1 .0) (g .0 .1 .1 .0)) = rw (g .1) at (c .before .before .before .clamped-corner .ensures) in
     low-least (F .fraction) (F .exponent) (span (z .args .x)) (span (z .args .a)) (span (z .args .b)) (z .args .known) _ (z .pre .6) (record { x = g .0 .0; a = g .0 .1 .0; solution = l .solution })
 
 enum-told : tie.Need-enum-told
@@ -67,7 +67,7 @@ pub least-above-spec : {M : Type 1} → statement M
 least-above-spec =
     tie.close
     (tie.spec
-    search-corner-requires
+    clamped-corner-requires
     enum-known-s
     returns
     enum-told

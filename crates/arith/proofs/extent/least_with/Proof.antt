@@ -34,8 +34,8 @@ returns c =
 sub-below : tie.Need-sub-t10
 sub-below c = search needs
 
-search-corner-requires : tie.Need-search-corner-requires
-search-corner-requires c κs =
+clamped-corner-requires : tie.Need-clamped-corner-requires
+clamped-corner-requires c κs =
     let z = c .before .before .before in
     let i = held (c .before .before) .solution .b-in in
     (z .pre .0, z .pre .1, z .pre .2, record { low = z .pre .3 .low; high = record { low = omega arith; high = omega arith } }, omega arith)
@@ -51,7 +51,7 @@ returns-2 c =
     let z = c .before .before .before .before .before .before in
     let F = z .args .format in
     let s = c .before .before .before .before .before in
-    let n : CornerOf F (z .args .x) (z .args .a) (record { low = z .args .b .low; high = s .lesser .result - 1 }) Corner.Absent = rw (c .enum-told2 .given .1) at (c .before .before .search-corner .ensures) in
+    let n : CornerOf F (z .args .x) (z .args .a) (record { low = z .args .b .low; high = s .lesser .result - 1 }) Corner.Absent = rw (c .enum-told2 .given .1) at (c .before .before .clamped-corner .ensures) in
     none-below (F .fraction) (F .exponent) (span (z .args .x)) (span (z .args .a)) (span (z .args .b)) _ (held s) n
 
 lesser-requires-2 : tie.Need-lesser-requires-2
@@ -77,7 +77,7 @@ least-with-spec =
     lesser-requires
     returns
     sub-below
-    search-corner-requires
+    clamped-corner-requires
     enum-told
     enum-told-2
     returns-2
