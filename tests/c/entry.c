@@ -37,7 +37,7 @@ static void expect(const char *what, uint64_t width, const uint64_t in[6], size_
 static const uint64_t none[6]; /* the ends where none are expected */
 
 /* width 32: x and a from 1 to 2, b from 1 to 4 */
-static const uint64_t halves[6] = { 0x3F800000, 0x40000000, 0x3F800000, 0x40000000, 0x3F800000, 0x40800000 };
+static const uint64_t small32[6] = { 0x3F800000, 0x40000000, 0x3F800000, 0x40000000, 0x3F800000, 0x40800000 };
 
 static void answered(void)
 {
@@ -53,8 +53,8 @@ static void answered(void)
     expect("a = b = 1, width 32", 32, ones32, 48, 0, ones32_out);
     expect("a byte short, width 32", 32, ones32, 47, 13, none);
 
-    const uint64_t halves_out[6] = { 0x3F800000, 0x40000000, 0x3F800000, 0x40000000, 0x40000000, 0x40800000 };
-    expect("b alone narrowed, width 32", 32, halves, ROOM, 0, halves_out);
+    const uint64_t small32_out[6] = { 0x3F800000, 0x40000000, 0x3F800000, 0x40000000, 0x40000000, 0x40800000 };
+    expect("b alone narrowed, width 32", 32, small32, ROOM, 0, small32_out);
 
     const uint64_t gap[6] = { LOWEST, LARGEST, TWO, 0x4000000000000001, ONE, ONE };
     const uint64_t gap_out[6] = { 0xBFF0000000000002, 0xBFEFFFFFFFFFFFFF, TWO, 0x4000000000000001, ONE, ONE };
@@ -79,7 +79,9 @@ static void refused(void)
     expect("low above high", 64, crossed, 48, 3, none);
     expect("3 before 13", 64, crossed, 0, 3, none);
     expect("width 33", 33, crossed, 48, 1, none);
-    expect("1 before 2 and 13", 0, crossed, 0, 1, none);
+    expect("1 before 3 and 13", 0, crossed, 0, 1, none);
+    const uint64_t infinite[6] = { ONE, 0x7FF0000000000000, ONE, TWO, ONE, TWO };
+    expect("1 before 2 and 13", 0, infinite, 0, 1, none);
 
     /* each end made an infinity, a NaN, or longer than the width; each interval with its ends exchanged */
     for (int i = 0; i < 6; i++) {
@@ -89,12 +91,12 @@ static void refused(void)
         expect("infinity, and out of order", 64, bad, ROOM, 2, none);
         bad[i] = 0xFFF0000000000001;
         expect("NaN, and no bytes", 64, bad, 0, 2, none);
-        memcpy(bad, halves, sizeof bad);
+        memcpy(bad, small32, sizeof bad);
         bad[i] |= 0x100000000;
         expect("bits beyond width 32", 32, bad, ROOM, 2, none);
-        memcpy(bad, halves, sizeof bad);
-        bad[i] = halves[i ^ 1];
-        bad[i ^ 1] = halves[i];
+        memcpy(bad, small32, sizeof bad);
+        bad[i] = small32[i ^ 1];
+        bad[i ^ 1] = small32[i];
         expect("ends exchanged, width 32", 32, bad, ROOM, 3, none);
     }
 }

@@ -11,8 +11,8 @@ use Rattle.arith.specs.declared.corner.Operands.{Operands}
 use Rattle.arith.specs.declared.corner.Corner.{Corner}
 use Rattle.arith.specs.declared.corner.Corner.the-variants as Corner
 use Rattle.arith.specs.Formats.{Sound}
-use Rattle.arith.specs.Intervals.{Ends}
-use Rattle.arith.specs.Searches.{span, CornerOf, SameTriples}
+use Rattle.arith.specs.Intervals.{Ends, span}
+use Rattle.arith.specs.Searches.{CornerOf, SameTriples}
 
 pub bounded : {F : Format} {R : Range} → Ends F R → Bounded (F .fraction) (F .exponent) (span R)
 bounded e = record { low = e .low; high = e .high }

@@ -14,9 +14,8 @@ use Rattle.arith.specs.declared.narrow.Narrowed.{Narrowed}
 use Rattle.arith.specs.declared.narrow.Narrowed.the-variants.{Ends, Refused}
 use Rattle.arith.specs.Refusals.{orRefuse}
 use Rattle.arith.specs.Formats.{isKnown, formatOf}
-use Rattle.arith.specs.Intervals.{endsFinite, isOrdered, rangeOf}
-use Rattle.arith.specs.Searches.{span, narrowing}
-use Rattle.arith.specs.Narrows.{written, narrowAnswer, narrowOrdered, narrowIn, narrowOf}
+use Rattle.arith.specs.Intervals.{Valid, endsFinite, isOrdered, rangeOf, span}
+use Rattle.arith.specs.Narrows.{narrowing, written, narrowAnswer, narrowFinite, narrowIn, narrowOf}
 use Rattle.arith.proofs.Refusing.{passed}
 use Rattle.arith.proofs.Intervals.{range-ends}
 use Rattle.arith.proofs.Bounds.{bounded}
@@ -28,13 +27,9 @@ passes false n rest p q r e = let z : _≡_ {A = ℕ} 0 1 = cc in absurd (omega 
 
 -- what an answer with ends says: no interval was refused, and p, q, r are the ends of the narrowing, written
 pub record Answered (width : ℕ) (x a b p q r : Interval) : Type 0 where
-  pub known : isKnown width ≡ true
-  pub finite-x : endsFinite (formatOf width) x ≡ true
-  pub finite-a : endsFinite (formatOf width) a ≡ true
-  pub finite-b : endsFinite (formatOf width) b ≡ true
-  pub ordered-x : isOrdered (rangeOf (formatOf width) x) ≡ true
-  pub ordered-a : isOrdered (rangeOf (formatOf width) a) ≡ true
-  pub ordered-b : isOrdered (rangeOf (formatOf width) b) ≡ true
+  pub valid-x : Valid width x
+  pub valid-a : Valid width a
+  pub valid-b : Valid width b
   pub X : L.Interval
   pub A : L.Interval
   pub B : L.Interval
@@ -47,14 +42,13 @@ module _ (width : ℕ) (x a b : Interval) where
   abbrev F : Format
   F = formatOf width
 
-  from-narrowing : (p q r : Interval) → isKnown width ≡ true → endsFinite F x ≡ true → endsFinite F a ≡ true → endsFinite F b ≡ true → isOrdered (rangeOf F x) ≡ true → isOrdered (rangeOf F a) ≡ true
-      → isOrdered (rangeOf F b) ≡ true → (n : Narrowing) → narrowing F (rangeOf F x) (rangeOf F a) (rangeOf F b) ≡ n → narrowAnswer F n ≡ Ends p q r → Answered width x a b p q r
-  from-narrowing p q r k fx fa fb ox oa ob none i h = let z : _≡_ {A = ℕ} 0 1 = cc in absurd (omega arith)
-  from-narrowing p q r k fx fa fb ox oa ob (ends X A B) i h =
-      record { known = k; finite-x = fx; finite-a = fa; finite-b = fb; ordered-x = ox; ordered-a = oa; ordered-b = ob; X = X; A = A; B = B; is = i; x-is = cc; a-is = cc; b-is = cc }
+  from-narrowing : (p q r : Interval) → Valid width x → Valid width a → Valid width b → (n : Narrowing) → narrowing F (rangeOf F x) (rangeOf F a) (rangeOf F b) ≡ n → narrowAnswer F n ≡ Ends p q r → Answered width x a b p q r
+  from-narrowing p q r vx va vb none i h = let z : _≡_ {A = ℕ} 0 1 = cc in absurd (omega arith)
+  from-narrowing p q r vx va vb (ends X A B) i h =
+      record { valid-x = vx; valid-a = va; valid-b = vb; X = X; A = A; B = B; is = i; x-is = cc; a-is = cc; b-is = cc }
 
   pub narrow-answered : (p q r : Interval) → narrowOf width x a b ≡ Ends p q r → Answered width x a b p q r
-  unfolding narrowOf narrowIn narrowOrdered
+  unfolding narrowOf narrowIn narrowFinite
   narrow-answered p q r e =
       let s1 = passes _ 1 _ p q r e in
       let s2 = passes _ 2 _ p q r (s1 .1) in
@@ -63,12 +57,16 @@ module _ (width : ℕ) (x a b : Interval) where
       let s5 = passes _ 3 _ p q r (s4 .1) in
       let s6 = passes _ 3 _ p q r (s5 .1) in
       let s7 = passes _ 3 _ p q r (s6 .1) in
-      from-narrowing p q r (s1 .0) (s2 .0) (s3 .0) (s4 .0) (s5 .0) (s6 .0) (s7 .0) _ refl (s7 .1)
+      from-narrowing p q r
+      (record { known = s1 .0; finite = s2 .0; ordered = s5 .0 })
+      (record { known = s1 .0; finite = s3 .0; ordered = s6 .0 })
+      (record { known = s1 .0; finite = s4 .0; ordered = s7 .0 })
+      _ refl (s7 .1)
 
   -- the answer for intervals to which none of refusals 1 to 3 applies
   pub narrow-valid : isKnown width ≡ true → endsFinite F x ≡ true → endsFinite F a ≡ true → endsFinite F b ≡ true → isOrdered (rangeOf F x) ≡ true → isOrdered (rangeOf F a) ≡ true → isOrdered (rangeOf F b) ≡ true
       → narrowOf width x a b ≡ narrowAnswer F (narrowing F (rangeOf F x) (rangeOf F a) (rangeOf F b))
-  unfolding narrowOf narrowIn narrowOrdered
+  unfolding narrowOf narrowIn narrowFinite
   narrow-valid k fx fa fb ox oa ob = sym (passed Refused 1 _ _ k (passed Refused 2 _ _ fx (passed Refused 2 _ _ fa (passed Refused 2 _ _ fb (passed Refused 3 _ _ ox (passed Refused 3 _ _ oa (passed Refused 3 _ _ ob refl)))))))
 
 -- written ends are finite
@@ -85,7 +83,7 @@ answered-finite width x a b p q r w =
     let A = span (rangeOf F a) in
     let B = span (rangeOf F b) in
     let h = narrowing-hull f e X A B (w .X) (w .A) (w .B) (w .is) in
-    let nx = within-bounded (bounded (range-ends F x (rangeOf F x) refl (w .finite-x))) (hull-x f e X A B (w .X) (w .A) (w .B) h) in
-    let na = within-bounded (bounded (range-ends F a (rangeOf F a) refl (w .finite-a))) (hull-a f e X A B (w .X) (w .A) (w .B) h) in
-    let nb = within-bounded (bounded (range-ends F b (rangeOf F b) refl (w .finite-b))) (hull-b f e X A B (w .X) (w .A) (w .B) h) in
+    let nx = within-bounded (bounded (range-ends F x (rangeOf F x) refl (w .valid-x .finite))) (hull-x f e X A B (w .X) (w .A) (w .B) h) in
+    let na = within-bounded (bounded (range-ends F a (rangeOf F a) refl (w .valid-a .finite))) (hull-a f e X A B (w .X) (w .A) (w .B) h) in
+    let nb = within-bounded (bounded (range-ends F b (rangeOf F b) refl (w .valid-b .finite))) (hull-b f e X A B (w .X) (w .A) (w .B) h) in
     (rw (w .x-is) (written-finite F (w .X) nx), rw (w .a-is) (written-finite F (w .A) na), rw (w .b-is) (written-finite F (w .B) nb))

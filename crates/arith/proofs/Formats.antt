@@ -13,6 +13,12 @@ use Rattle.arith.specs.declared.format.Format.{Format}
 use Rattle.arith.specs.Formats.{binary, formatOf, Sound, isFinite, ordinal, pattern, Finite}
 use Rattle.arith.specs.Sums.{isFiniteOrdinal}
 
+-- a test of two parts
+pub both : (p q : Bool) → (p && q) ≡ true → (p ≡ true) × (q ≡ true)
+both true true e = (refl, refl)
+both true false e = absurd (true≢false (sym e))
+both false q e = absurd (true≢false (sym e))
+
 pub sound : (width : ℕ) → Sound (formatOf width)
 unfolding L.sign L.infinity
 sound width = go (eqb width 32)
@@ -61,13 +67,8 @@ module _ (F : Format) (ok : Sound F) where
   pub finite-ordinal : (r : ℕ) → isFiniteOrdinal F r ≡ true → Finite F r
   unfolding isFiniteOrdinal
   finite-ordinal r h =
-      let both = split (ltb (F .sign) (r + F .infinity)) (ltb r (F .sign + F .infinity)) h in
+      let t = both (ltb (F .sign) (r + F .infinity)) (ltb r (F .sign + F .infinity)) h in
       record {
-        low = omega (arith, ok .sign, ok .infinity, ltb-true (F .sign) (r + F .infinity) (both .0));
-        high = omega (arith, ok .sign, ok .infinity, ltb-true r (F .sign + F .infinity) (both .1));
+        low = omega (arith, ok .sign, ok .infinity, ltb-true (F .sign) (r + F .infinity) (t .0));
+        high = omega (arith, ok .sign, ok .infinity, ltb-true r (F .sign + F .infinity) (t .1));
       }
-    where
-      split : (p q : Bool) → (p && q) ≡ true → (p ≡ true) × (q ≡ true)
-      split true true e = (refl, refl)
-      split true false e = absurd (true≢false (sym e))
-      split false q e = absurd (true≢false (sym e))

@@ -1,6 +1,6 @@
 -- The ends of an interval, of a cut and of a mirror are finite. Rests on `ladder`'s laws of ordinals.
-use mathlib.Core.Path.{_≡_, refl, sym, subst}
-use mathlib.Core.Bool.{Bool, true, false, _&&_, true≢false}
+use mathlib.Core.Path.{_≡_, sym, subst}
+use mathlib.Core.Bool.{true}
 use native.Mathlib.Omega.{arith}
 use Rattle.ladder.proofs.Ordinals.{infinity-lt-sign, ordinal-finite}
 use Rattle.arith.specs.declared.format.Format.{Format}
@@ -8,11 +8,7 @@ use Rattle.arith.specs.declared.range.Range.{Range}
 use Rattle.arith.specs.declared.interval.Interval.{Interval}
 use Rattle.arith.specs.Formats.{isFinite}
 use Rattle.arith.specs.Intervals.{Ends, endsFinite, rangeOf, common, reflected}
-
-both : (p q : Bool) → (p && q) ≡ true → (p ≡ true) × (q ≡ true)
-both true true e = (refl, refl)
-both true false e = absurd (true≢false (sym e))
-both false q e = absurd (true≢false (sym e))
+use Rattle.arith.proofs.Formats.{both}
 
 pub ends-both : (F : Format) (I : Interval) → endsFinite F I ≡ true → (isFinite F (I .low) ≡ true) × (isFinite F (I .high) ≡ true)
 unfolding endsFinite

@@ -9,7 +9,7 @@ pub mod Jamming
 pub mod Halving
 pub mod Crossing
 pub mod Thresholds
-pub mod Answers
+pub mod Sums
 pub mod Clamping
 pub mod Bounds
 pub mod Narrowings

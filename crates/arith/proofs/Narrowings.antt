@@ -10,9 +10,9 @@ use Rattle.arith.specs.declared.refusal.Refusal.{Refusal}
 use Rattle.arith.specs.declared.narrow.Ranges.the-variants as Ranges
 use Rattle.arith.specs.declared.narrow.Narrowed.the-variants as Narrowed
 use Rattle.arith.specs.Refusals.{refusal}
-use Rattle.arith.specs.Intervals.{Ends, intervalOf}
-use Rattle.arith.specs.Searches.{span, HasX, narrowingIn, narrowing}
-use Rattle.arith.specs.Narrows.{narrowAnswer}
+use Rattle.arith.specs.Intervals.{Ends, intervalOf, span}
+use Rattle.arith.specs.Searches.{HasX, narrowingIn}
+use Rattle.arith.specs.Narrows.{narrowing, narrowAnswer}
 use Rattle.arith.proofs.Bounds.{bounded, ends-of}
 
 module _ (F : Format) (X A B : Range) where

@@ -19,7 +19,7 @@ use Rattle.arith.specs.declared.narrow.Narrowed.the-variants as Narrowed
 use Rattle.arith.specs.Formats.{formatOf, ordinal, pattern}
 use Rattle.arith.specs.Sums.{markOf, inRange, addIn, addOf}
 use Rattle.arith.specs.Intervals.{endsFinite, isOrdered, common, reflected, intervalOf, sharedIn, movedIn, canonicalIn, cutIn, shiftIn, mirrorIn, canonicalOf, cutOf, shiftOf, mirrorOf}
-use Rattle.arith.specs.Narrows.{written, narrowAnswer, narrowOrdered, narrowIn, narrowOf}
+use Rattle.arith.specs.Narrows.{written, narrowAnswer, narrowFinite, narrowIn, narrowOf}
 use Rattle.arith.specs.Floating.{floatsOf, floatAnswer, narrowFloatsOf}
 use Rattle.arith.specs.Answers.{Reply, gives, refuses, sumTold, cutTold, imageTold, narrowedTold, floatPatterns, floatsTold}
 use Rattle.arith.specs.Replies as R
@@ -107,7 +107,7 @@ answer-told width none = refl
 answer-told width (ends X A B) = refl
 
 pub narrow-told : (width : ℕ) (x a b : Interval) → narrowedTold (narrowOf width x a b) ≡ replyAfter (R.narrowTests width x a b) (R.narrowValues width x a b)
-unfolding narrowOf narrowIn narrowOrdered
+unfolding narrowOf narrowIn narrowFinite
 narrow-told width x a b =
     let n = R.inTriples width x a b in
     told-chain Narrowed.Refused narrowedTold (λ _. refl) (R.givenTests width x a b) (R.solved n ∷ []) (narrowAnswer (formatOf width) n) (R.sixPatterns width n) (answer-told width n)
@@ -135,13 +135,9 @@ module _ (x a b : Interval) where
       let f =
       answered-finite 64 x a b _ _ _
       (record {
-        known = p .0;
-        finite-x = s .0;
-        finite-a = s .1 .0;
-        finite-b = s .1 .1 .0;
-        ordered-x = s .1 .1 .1 .0;
-        ordered-a = s .1 .1 .1 .1 .0;
-        ordered-b = s .1 .1 .1 .1 .1 .0;
+        valid-x = record { known = p .0; finite = s .0; ordered = s .1 .1 .1 .0 };
+        valid-a = record { known = p .0; finite = s .1 .0; ordered = s .1 .1 .1 .1 .0 };
+        valid-b = record { known = p .0; finite = s .1 .1 .0; ordered = s .1 .1 .1 .1 .1 .0 };
         X = X;
         A = A;
         B = B;
@@ -154,7 +150,7 @@ module _ (x a b : Interval) where
       rw (patterns-told (written F X) (f .0), patterns-told (written F A) (f .1), patterns-told (written F B) (f .2))
 
   pub floats-told : floatsTold (narrowFloatsOf x a b) ≡ replyAfter (R.givenTests 64 x a b) (R.floatValues x a b)
-  unfolding narrowFloatsOf narrowOf narrowIn narrowOrdered
+  unfolding narrowFloatsOf narrowOf narrowIn narrowFinite
   floats-told =
       let n = R.inTriples 64 x a b in
       told-after Narrowed.Refused (λ (N : Narrowed). floatsTold (floatAnswer N)) (R.givenTests 64 x a b) [] (narrowAnswer F n) (R.threeFloats n)

@@ -3,7 +3,7 @@ use mathlib.Core.Path.{_≡_, refl, sym, ap, ap₂, _∙_}
 use mathlib.Core.Logic.{inl, inr}
 use mathlib.Core.Bool.{Bool, true, false}
 use Prim.Native.Nat.{ℕ, suc, _+_, _-_, _*_, _/_, _%_, _^_, _≤_, _<_, compare, Ordering, Ordering·lt, Ordering·eq, Ordering·gt}
-use native.Mathlib.Nat.{mod-lt, div-add-mod', mul-le-mul, mul-le-mul-left, mul-le-mul-right, mul-lt-mul-of-pos-right, mod-eq-zero-of-dvd, pow-succ', mul-pos, lt-of-not-le, not-le-of-lt, lt-of-lt-of-le}
+use native.Mathlib.Nat.{mod-lt, div-add-mod', mul-le-mul, mul-le-mul-left, mul-le-mul-right, mul-lt-mul-of-pos-right, mod-eq-zero-of-dvd, pow-succ', mul-pos}
 use native.Mathlib.Omega.{arith}
 use lib.Dec.{eqb}
 use lib.Arith.{digits-mod}
@@ -15,6 +15,7 @@ use borrow.Author.Tests.{eq-eqb, ne-eqb}
 use Rattle.ladder.specs.Magnitude.{magnitude}
 use Rattle.ladder.specs.Rounding.{excess, round}
 use Rattle.ladder.proofs.Cases.{le-or-lt, Compares, compares}
+use Rattle.ladder.proofs.Digits.{lt-size}
 use Rattle.ladder.proofs.Magnitude.{magnitude-is}
 use Rattle.ladder.proofs.Rounding.{round-magnitude, even-pow}
 use Rattle.ladder.proofs.Multiples.{magnitude-dvd}
@@ -144,7 +145,7 @@ shifted-lt n s j h = omega (arith, mul-lt-mul-of-pos-right (size-lt n) (pow-pos 
 
 shifted-ge : (n s j : ℕ) → 0 < n → size n + s ≡ suc j → 2 ^ j ≤ n * 2 ^ s
 shifted-ge n s j p h =
-    let z : 0 < size n = lt-of-not-le (λ (g : size n ≤ 0). not-le-of-lt (lt-of-lt-of-le (size-lt n) (pow-mono g)) p) in
+    let z : 0 < size n = lt-size n 0 p in
     let e : size n - 1 + s ≡ j = omega arith in
     omega (arith, mul-le-mul-right (2 ^ s) (size-reaches n (size n - 1) (omega arith)), pow-add 2 (size n - 1) s, ap (λ (x : ℕ). 2 ^ x) e)
 

@@ -13,18 +13,11 @@ use Rattle.arith.specs.declared.interval.Image.{Image}
 use Rattle.arith.specs.declared.interval.Image.the-variants.{Is, Refused}
 use Rattle.arith.specs.Refusals.{refusal, orRefuse}
 use Rattle.arith.specs.Formats.{isKnown, formatOf}
-use Rattle.arith.specs.Intervals.{endsFinite, isOrdered, rangeOf, intervalOf, canonicalIn, canonicalOf}
-use Rattle.arith.specs.Searches.{span, narrowing}
-use Rattle.arith.specs.Narrows.{written, narrowAnswer, narrowOf}
+use Rattle.arith.specs.Intervals.{Valid, endsFinite, isOrdered, rangeOf, intervalOf, canonicalIn, canonicalOf, span}
+use Rattle.arith.specs.Narrows.{narrowing, written, narrowAnswer, narrowOf}
 use Rattle.arith.proofs.Intervals.{range-ends}
 use Rattle.arith.proofs.Bounds.{bounded}
 use Rattle.arith.proofs.Callers.{narrow-valid}
-
--- an interval that none of refusals 1 to 3 is for
-pub record Valid (width : ℕ) (I : Interval) : Type 0 where
-  pub known : isKnown width ≡ true
-  pub finite : endsFinite (formatOf width) I ≡ true
-  pub ordered : isOrdered (rangeOf (formatOf width) I) ≡ true
 
 -- ---- its canonical form
 module _ (width : ℕ) (I : Interval) where

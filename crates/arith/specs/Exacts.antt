@@ -34,7 +34,7 @@ exactOf f negative opposite m n =
 unfoldable pub sizeOf : Exact → ℕ
 sizeOf t = cond (t .opposite) (t .larger * 2 ^ t .gap - t .smaller) (t .larger * 2 ^ t .gap + t .smaller) * 2 ^ t .shift
 
--- what rounding relies on: both significands have at most d + 1 digits, a gap is below a number that has them all, and the exponent fits a word
+-- what rounding relies on: both significands have at most d + 1 digits, a gap is below a number that has them all, the smaller part is no larger than the larger one, and the exponent fits a word
 pub record Shaped (d : ℕ) (t : Exact) : Type 0 where
   pub larger : t .larger < 2 * 2 ^ d
   pub smaller : t .smaller < 2 * 2 ^ d
@@ -71,12 +71,12 @@ pub data Alike (d n m : ℕ) : Type 0 where
   same : n ≡ m → Alike d n m
   sticky : (j a b c : ℕ) → 2 * 2 ^ d ≤ a → 0 < b → b < 2 ^ j → 0 < c → c < 2 ^ j → n ≡ a * 2 ^ j + b → m ≡ a * 2 ^ j + c → Alike d n m
 
--- s fits a word and rounds as the exact sum t does
+-- s rounds as the exact sum t does, and its shift is no larger than t's exponent
 pub record Scales (d : ℕ) (t : Exact) (s : Scaled) : Type 0 where
   pub alike : Alike d (s .significand * 2 ^ s .shift) (sizeOf t)
   pub low : s .shift ≤ t .gap + t .shift
 
--- how many fraction bits a word has room for
+-- the numbers of fraction bits that the arithmetic takes
 abbrev pub Fraction : ℕ → Type 0
 Fraction f = (1 ≤ f) × (f ≤ 52)
 

@@ -1,7 +1,9 @@
 -- 01's intervals of patterns, and the whole answers of their cut, shift and mirror, refusals in their order. Assumes nothing.
-use mathlib.Core.Bool.{Bool, cond, _&&_}
+use mathlib.Core.Path.{_≡_}
+use mathlib.Core.Bool.{Bool, true, cond, _&&_}
 use Prim.Native.Nat.{ℕ, min, max}
 use lib.Dec.{leb}
+use Rattle.ladder.specs.Solution as L
 use Rattle.arith.specs.declared.format.Format.{Format}
 use Rattle.arith.specs.declared.range.Range.{Range}
 use Rattle.arith.specs.declared.interval.Interval.{Interval}
@@ -26,6 +28,10 @@ rangeOf F I = record { low = ordinal F (I .low); high = ordinal F (I .high) }
 abbrev pub intervalOf : Format → Range → Interval
 intervalOf F R = record { low = pattern F (R .low); high = pattern F (R .high) }
 
+-- a range of ordinals as ladder's interval
+abbrev pub span : Range → L.Interval
+span R = record { low = R .low; high = R .high }
+
 -- both ends are ordinals of finite floats
 pub record Ends (F : Format) (R : Range) : Type 0 where
   pub low : Finite F (R .low)
@@ -34,6 +40,12 @@ pub record Ends (F : Format) (R : Range) : Type 0 where
 -- refusal 3 is for low above high
 unfoldable pub isOrdered : Range → Bool
 isOrdered R = leb (R .low) (R .high)
+
+-- 01's interval: none of refusals 1 to 3 applies to it
+pub record Valid (width : ℕ) (I : Interval) : Type 0 where
+  pub known : isKnown width ≡ true
+  pub finite : endsFinite (formatOf width) I ≡ true
+  pub ordered : isOrdered (rangeOf (formatOf width) I) ≡ true
 
 -- what two ranges share
 abbrev pub common : Range → Range → Range

@@ -3,7 +3,7 @@ use mathlib.Core.Bool.{Bool, cond}
 use Prim.Native.Nat.{ℕ}
 use Rattle.arith.specs.declared.refusal.Refusal.{Refusal}
 
--- the refusal of a number; outside sheets and texts 01's place is 0
+-- the refusal of a number; outside lists, sheets and texts 01's place is 0
 abbrev pub refusal : ℕ → Refusal
 refusal n = record { number = n; place = 0 }
 

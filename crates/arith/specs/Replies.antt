@@ -11,8 +11,7 @@ use Rattle.arith.specs.Refusals.{refusal}
 use Rattle.arith.specs.Formats.{isKnown, formatOf, isFinite, ordinal, pattern, sum}
 use Rattle.arith.specs.Sums.{isFiniteOrdinal, markOf}
 use Rattle.arith.specs.Intervals.{endsFinite, rangeOf, intervalOf, isOrdered, common, translated, reflected}
-use Rattle.arith.specs.Searches.{narrowing}
-use Rattle.arith.specs.Narrows.{written}
+use Rattle.arith.specs.Narrows.{narrowing, written}
 use Rattle.arith.specs.Answers.{Reply, gives, refuses, twoEnds}
 
 -- ---- tests

@@ -1,6 +1,6 @@
 -- What the functions that the narrowing calls answer: each case of an answer, by `ladder`'s definitions. Assumes nothing.
 use Prim.Native.Nat.{ℕ, _-_, _<_}
-use Rattle.ladder.specs.Solution.{Interval, Solution}
+use Rattle.ladder.specs.Solution.{Solution}
 use Rattle.ladder.specs.Narrowing as N
 use Rattle.ladder.specs.Narrowing.{Narrowing, none, ends}
 use Rattle.ladder.specs.Search as S
@@ -13,11 +13,7 @@ use Rattle.arith.specs.declared.corner.Corner.{Corner}
 use Rattle.arith.specs.declared.corner.Corner.the-variants as Corner
 use Rattle.arith.specs.declared.narrow.Ranges.{Ranges}
 use Rattle.arith.specs.declared.narrow.Ranges.the-variants as Ranges
-use Rattle.arith.specs.Intervals.{Ends}
-
--- a range of ordinals as ladder's interval
-abbrev pub span : Range → Interval
-span R = record { low = R .low; high = R .high }
+use Rattle.arith.specs.Intervals.{span, Ends}
 
 -- ---- the ends of what has a property
 -- the answer is the least, or that there is none
@@ -44,12 +40,12 @@ abbrev pub Stays : Format → ℕ → ℕ → Range → ℕ → Type 0
 Stays F a b R = S.Stays (F .fraction) (F .exponent) a b (span R)
 
 -- t is no more than the least sum with a that is at least b, if one inside R has such a sum
-abbrev pub AtMost : Format → ℕ → Range → ℕ → ℕ → Type 0
-AtMost F b R a t = S.AtMost (F .fraction) (F .exponent) b (span R) a t
+abbrev pub AtMost : Format → ℕ → ℕ → Range → ℕ → Type 0
+AtMost F a b R = S.AtMost (F .fraction) (F .exponent) a b (span R)
 
 -- the same with the a before the least inside A that reaches b with X's low end
 abbrev pub AtMostBefore : Format → ℕ → Range → Range → ℕ → Type 0
-AtMostBefore F b X A t = (z : ℕ) → S.Least (Attains F (X .low) b A) z → A .low < z → AtMost F b X (z - 1) t
+AtMostBefore F b X A t = (z : ℕ) → S.Least (Attains F (X .low) b A) z → A .low < z → AtMost F (z - 1) b X t
 
 -- x, a and b are a triple
 abbrev pub Triple : Format → Range → Range → Range → ℕ → ℕ → ℕ → Type 0
@@ -83,12 +79,7 @@ pub record SameTriples (F : Format) (X A B : Range) (O : Operands) : Type 0 wher
   pub given : (x a b : ℕ) → Triple F (O .x) (O .a) B x a b → Triple F X A B x a b
   pub fine : Fine F (O .x) (O .a) B
 
--- ---- the narrowing of ranges
--- the code's answer as ladder's
+-- ---- the narrowing of ranges, as ladder's
 abbrev pub narrowingIn : Ranges → Narrowing
 narrowingIn Ranges.None = none
 narrowingIn (Ranges.Ends X A B) = ends (span X) (span A) (span B)
-
--- ladder's answer for ranges
-abbrev pub narrowing : Format → Range → Range → Range → Narrowing
-narrowing F X A B = N.narrowing (F .fraction) (F .exponent) (span X) (span A) (span B)

@@ -4,7 +4,8 @@ ghost use mathlib.Core.Logic.{_⊎_};
 ghost use Prim.Native.Nat.{_≤_};
 ghost use Rattle.arith.specs.Formats.{Sound, sum};
 ghost use Rattle.arith.specs.Intervals.{Ends};
-ghost use Rattle.arith.specs.Searches.{LeastOf, Spans, Triple, HasB, AtMost, AtMostBefore};
+ghost use Rattle.ladder.specs.Search.{Least};
+ghost use Rattle.arith.specs.Searches.{Spans, Triple, HasB, AtMost, AtMostBefore};
 use crate::corner::Corner;
 use crate::corner::Operands;
 use crate::corner::clamped_corner;
@@ -14,18 +15,18 @@ use crate::hardware::add_ordinals;
 use crate::operand::Found;
 use crate::operand::least_operand;
 use crate::range::Range;
-use crate::range::greater;
-use crate::range::less;
+use crate::range::max;
+use crate::range::min;
 use crate::range::mirror_of;
 use crate::range::reflect;
 
 // A b that stands in a triple: the one known, or the least sum with c that is not below b, if that is less.
 fn lesser(format: Format, c: u64, x: Range, a: Range, b: Range, known: u64) -> u64
     requires { ⌜ (Sound format) × (Ends format x) × (Ends format a) × (Ends format b) × (a .low ≤ c) × (c ≤ a .high) × (HasB format x a b known) ⌝ }
-    ensures { λ r. ⌜ (HasB format x a b r) × (r ≤ known) × (AtMost format (b .low) x c r) ⌝ }
+    ensures { λ r. ⌜ (HasB format x a b r) × (r ≤ known) × (AtMost format c (b .low) x r) ⌝ }
 {
     match least_operand(format, c, b.low, x) {
-        Found::At(y) => less(known, add_ordinals(format, y, c)),
+        Found::At(y) => min(known, add_ordinals(format, y, c)),
         Found::Absent => known,
     }
 }
@@ -46,8 +47,8 @@ fn lesser_before(format: Format, x: Range, a: Range, b: Range, known: u64) -> u6
 
 // The least b in a triple, where the one known is no more than the least sums with the low ends: b's low end where that stands in a triple, else the least of the sums that decide.
 fn least_above(format: Format, x: Range, a: Range, b: Range, known: u64) -> u64
-    requires { ⌜ (Sound format) × (Ends format x) × (Ends format a) × (Ends format b) × (b .low ≤ sum format (x .low) (a .high)) × (b .low ≤ sum format (x .high) (a .low)) × (HasB format x a b known) × (AtMost format (b .low) x (a .low) known) × (AtMost format (b .low) a (x .low) known) ⌝ }
-    ensures { λ r. ⌜ LeastOf (HasB format x a b) (Found.At r) ⌝ }
+    requires { ⌜ (Sound format) × (Ends format x) × (Ends format a) × (Ends format b) × (b .low ≤ sum format (x .low) (a .high)) × (b .low ≤ sum format (x .high) (a .low)) × (HasB format x a b known) × (AtMost format (a .low) (b .low) x known) × (AtMost format (x .low) (b .low) a known) ⌝ }
+    ensures { λ r. ⌜ Least (HasB format x a b) r ⌝ }
 {
     let low = Range {
         low: b.low,
@@ -66,7 +67,7 @@ fn least_above(format: Format, x: Range, a: Range, b: Range, known: u64) -> u64
 // The least b in a triple. The least sum with x's low end mostly is it, as one question tells.
 fn least_with(format: Format, x: Range, a: Range, b: Range, known: u64) -> u64
     requires { ⌜ (Sound format) × (Ends format x) × (Ends format a) × (Ends format b) × (b .low ≤ sum format (x .low) (a .high)) × (b .low ≤ sum format (x .high) (a .low)) × (HasB format x a b known) ⌝ }
-    ensures { λ r. ⌜ LeastOf (HasB format x a b) (Found.At r) ⌝ }
+    ensures { λ r. ⌜ Least (HasB format x a b) r ⌝ }
 {
     let s = lesser(format, x.low, a, x, b, known);
     if s <= b.low {
@@ -96,7 +97,7 @@ fn farther_first(format: Format, x: Range, a: Range) -> Operands
 // The least b in a triple: the sum of the low ends, unless that is below b.
 fn least_b(format: Format, x: Range, a: Range, b: Range, known: u64) -> u64
     requires { ⌜ (Sound format) × (Ends format x) × (Ends format a) × (Ends format b) × (b .low ≤ sum format (x .low) (a .high)) × (b .low ≤ sum format (x .high) (a .low)) × (HasB format x a b known) ⌝ }
-    ensures { λ r. ⌜ LeastOf (HasB format x a b) (Found.At r) ⌝ }
+    ensures { λ r. ⌜ Least (HasB format x a b) r ⌝ }
 {
     let least = add_ordinals(format, x.low, a.low);
     if b.low <= least {
@@ -114,13 +115,13 @@ pub(crate) fn extent_b(format: Format, x: Range, a: Range, b: Range, s: u64, t: 
     requires { ⌜ (Sound format) × (Ends format x) × (Ends format a) × (Ends format b) × (Triple format x a b (x .low) (a .high) s) × (Triple format x a b (x .high) (a .low) t) ⌝ }
     ensures { λ r. ⌜ Spans (HasB format x a b) r ⌝ }
 {
-    let low = least_b(format, x, a, b, less(s, t));
+    let low = least_b(format, x, a, b, min(s, t));
     let m = least_b(
         format,
         reflect(format, x),
         reflect(format, a),
         reflect(format, b),
-        mirror_of(format, greater(s, t)),
+        mirror_of(format, max(s, t)),
     );
     Range {
         low,

@@ -87,7 +87,7 @@ fn canonical_in(format: Format, i: Interval) -> Image
     Image::Is(interval_of(format, own))
 }
 
-// What two ranges of finite ordinals share.
+// The interval of a shared range, or that nothing is shared.
 fn shared_in(format: Format, r: Range) -> Cut
     requires { ⌜ (Sound format) × (Ends format r) ⌝ }
     ensures { λ c. ⌜ c ≡ sharedIn format r ⌝ }

@@ -3,8 +3,8 @@ ghost use mathlib.Core.Path.{_≡_};
 ghost use Prim.Native.Nat.{_≤_};
 ghost use Rattle.arith.specs.Formats.{Sound};
 ghost use Rattle.arith.specs.Intervals.{Ends};
-ghost use Rattle.arith.specs.Searches.{narrowingIn, narrowing};
-ghost use Rattle.arith.specs.Narrows.{narrowAnswer, narrowOrdered, narrowIn, narrowOf};
+ghost use Rattle.arith.specs.Searches.{narrowingIn};
+ghost use Rattle.arith.specs.Narrows.{narrowing, narrowAnswer, narrowFinite, narrowIn, narrowOf};
 ghost use Rattle.arith.specs.Answers.{narrowedTold};
 ghost use Rattle.arith.specs.Replies.{replyAfter, narrowTests, narrowValues};
 use crate::corner::Corner;
@@ -74,8 +74,8 @@ fn narrow_ranges(format: Format, x: Range, a: Range, b: Range) -> Ranges
     }
 }
 
-// The answer for three ranges.
-fn narrow_finite(format: Format, x: Range, a: Range, b: Range) -> Narrowed
+// The answer for three ranges that hold something.
+fn narrow_ordered(format: Format, x: Range, a: Range, b: Range) -> Narrowed
     requires { ⌜ (Sound format) × (Ends format x) × (Ends format a) × (Ends format b) × (x .low ≤ x .high) × (a .low ≤ a .high) × (b .low ≤ b .high) ⌝ }
     ensures { λ r. ⌜ r ≡ narrowAnswer format (narrowing format x a b) ⌝ }
 {
@@ -90,9 +90,9 @@ fn narrow_finite(format: Format, x: Range, a: Range, b: Range) -> Narrowed
 }
 
 // The answer for three ranges of finite ordinals; refusals 3 for x, a, b, then 11.
-fn narrow_ordered(format: Format, x: Range, a: Range, b: Range) -> Narrowed
+fn narrow_finite(format: Format, x: Range, a: Range, b: Range) -> Narrowed
     requires { ⌜ (Sound format) × (Ends format x) × (Ends format a) × (Ends format b) ⌝ }
-    ensures { λ r. ⌜ r ≡ narrowOrdered format x a b ⌝ }
+    ensures { λ r. ⌜ r ≡ narrowFinite format x a b ⌝ }
 {
     if !ordered(x) {
         return Narrowed::Refused(refuse(3));
@@ -103,7 +103,7 @@ fn narrow_ordered(format: Format, x: Range, a: Range, b: Range) -> Narrowed
     if !ordered(b) {
         return Narrowed::Refused(refuse(3));
     }
-    narrow_finite(format, x, a, b)
+    narrow_ordered(format, x, a, b)
 }
 
 // The answer in a format; refusals 2 for x, a, b, then 3 and 11.
@@ -120,7 +120,7 @@ fn narrow_in(format: Format, x: Interval, a: Interval, b: Interval) -> Narrowed
     if !ends_finite(format, b) {
         return Narrowed::Refused(refuse(2));
     }
-    narrow_ordered(
+    narrow_finite(
         format,
         range_of(format, x),
         range_of(format, a),

@@ -18,14 +18,14 @@ pub(crate) fn ordered(r: Range) -> bool
 }
 
 // The greater of two.
-pub(crate) fn greater(x: u64, y: u64) -> u64
+pub(crate) fn max(x: u64, y: u64) -> u64
     ensures { λ r. ⌜ r ≡ max x y ⌝ }
 {
     if x < y { y } else { x }
 }
 
 // The lesser of two.
-pub(crate) fn less(x: u64, y: u64) -> u64
+pub(crate) fn min(x: u64, y: u64) -> u64
     ensures { λ r. ⌜ r ≡ min x y ⌝ }
 {
     if x < y { x } else { y }
@@ -36,8 +36,8 @@ pub(crate) fn shared(r: Range, s: Range) -> Range
     ensures { λ t. ⌜ t ≡ common r s ⌝ }
 {
     Range {
-        low: greater(r.low, s.low),
-        high: less(r.high, s.high),
+        low: max(r.low, s.low),
+        high: min(r.high, s.high),
     }
 }
 

@@ -7,7 +7,7 @@ pub struct Refusal {
     pub place: u64,
 }
 
-// A refusal whose place is 0, as outside sheets and texts.
+// A refusal whose place is 0, as outside lists, sheets and texts.
 pub fn refuse(number: u64) -> Refusal
     ensures { λ r. ⌜ r ≡ refusal number ⌝ }
 {

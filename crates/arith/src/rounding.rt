@@ -39,7 +39,7 @@ fn join(opposite: bool, larger: u64, smaller: u64, shift: u64) -> Scaled
     }
 }
 
-// One word that rounds as the exact sum does. Where the gap is wider than three, of smaller's digits below one guard digit only the sticky one is kept.
+// One word that rounds as the exact sum does. Where the gap is wider than three, smaller keeps its digits down to the third below larger's last, and one sticky digit for all lower ones.
 pub(crate) fn scale(fraction: u64, t: Exact) -> Scaled
     requires { ⌜ (Digits fraction) × (Shaped fraction t) ⌝ }
     ensures { λ r. ⌜ Scales fraction t r ⌝ }

@@ -1,5 +1,6 @@
-pub mod Starred
+pub mod Sums
 pub mod Bounding
 pub mod Narrowings
 pub mod Sheets
 pub mod Listings
+pub mod Starred

@@ -21,7 +21,7 @@ use Rattle.arith.specs.Formats.{formatOf}
 use Rattle.arith.specs.Narrows.{narrowAnswer}
 use Rattle.arith.proofs.Callers.{narrow-valid}
 use Rattle.examples.specs.Starred.{Narrowings, interval, point, all64, one64, all32, one32}
-use Rattle.examples.proofs.Bounding.{triple, over, under, corners-hull, x-hull}
+use Rattle.examples.proofs.Bounding.{triple, over, under, shown-hull, x-hull}
 
 abbrev span : ℕ → ℕ → Interval
 span l h = record { low = l; high = h }
@@ -150,14 +150,14 @@ module _ (x a b : ℕ) (s : Solution 52 11 dX dA dB x a b) where
 
 -- document 000's example
 pub document : Hull 52 11 dX dA dB dX' dA' one
-document = corners-hull 52 11 (lit≤ tt) dX dA dB dX' dA' one (record {
+document = shown-hull 52 11 (lit≤ tt) dX dA dB dX' dA' one (record {
   x-low = record { a = _; b = _; solution = document-low };
   x-high = record { a = _; b = _; solution = document-high };
   a-low = record { x = _; b = _; solution = document-high };
   a-high = record { x = _; b = _; solution = document-low };
   b-low = record { x = _; a = _; solution = document-low };
   b-high = record { x = _; a = _; solution = document-low };
-  none = λ x a b s. (document-x x a b s, document-a x a b s, document-b x a b s);
+  within = λ x a b s. (document-x x a b s, document-a x a b s, document-b x a b s);
 })
 
 -- ---- at width 32

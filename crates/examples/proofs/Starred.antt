@@ -1,13 +1,9 @@
--- 01's starred examples hold: the checker computes each from the definitions. Assumes nothing.
-use mathlib.Core.Path.{refl}
-use lib.Ieee.{size}
-use Rattle.ladder.specs.Magnitude.{magnitude}
-use Rattle.ladder.specs.Rounding.{excess, round}
-use Rattle.ladder.specs.Ordinal.{sign, infinity, ordinal, pattern}
-use Rattle.ladder.specs.Sum.{rounded, sum}
-use Rattle.arith.specs.Sums.{isFiniteOrdinal, isExact, markOf, inRange, addIn, addOf}
-use Rattle.examples.specs.Starred.{Sums}
+-- 01's starred examples, the whole table. Assumes nothing.
+use Rattle.examples.specs.Starred.{Starred}
+use Rattle.examples.proofs.Sums.{sums}
+use Rattle.examples.proofs.Narrowings.{narrowings}
+use Rattle.examples.proofs.Sheets.{sheets}
+use Rattle.examples.proofs.Listings.{listings}
 
-pub sums : Sums
-unfolding addOf addIn inRange isFiniteOrdinal markOf isExact sum rounded round excess magnitude size sign infinity ordinal pattern
-sums = record { tie = refl; past-tie = refl; smallest = refl; largest = refl; too-large = refl; tie-32 = refl }
+pub starred : Starred
+starred = record { sums = sums; narrowings = narrowings; sheets = sheets; listings = listings }

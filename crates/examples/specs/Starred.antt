@@ -134,3 +134,10 @@ pub record Listings : Type 0 where
   -- the two sums with limit 5, and with limit 6
   pub stops : prints ("sheet\t64\t5\n" ++ chaseText) ≡ bytes "stopped\t5\ncell\t0\t0000000000000005\t0000000000000005\ncell\t1\t0000000000000001\t0000000000000001\ncell\t2\t0000000000000005\t0000000000000005\ncell\t3\t0000000000000000\t0000000000000000\n"
   pub breaks : prints ("sheet\t64\t6\n" ++ chaseText) ≡ bytes "none\t6\t0\n"
+
+-- ---- the whole table
+pub record Starred : Type 0 where
+  pub sums : Sums
+  pub narrowings : Narrowings
+  pub sheets : Sheets
+  pub listings : Listings

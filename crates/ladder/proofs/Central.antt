@@ -1,5 +1,5 @@
 -- The central law of rounding: n units round to m or below exactly when twice n is at most the sum of the values of m and its upper neighbour, which is twice their midpoint, and the midpoint
--- itself goes down only from an even m. Overflow, inverse images and the sticky digit rest on it. Assumes nothing.
+-- itself goes down only to an even m. Overflow, inverse images and the sticky digit rest on it. Assumes nothing.
 use mathlib.Core.Path.{_≡_, ap}
 use mathlib.Core.Logic.{_↔_, _⊎_, inl, inr}
 use Prim.Native.Nat.{ℕ, suc, _+_, _*_, _^_, _%_, _≤_, _<_}

@@ -14,10 +14,10 @@ use Rattle.ladder.specs.Search.{Bounded, NoMultiple, SomeMultiple, Fine,
 use Rattle.ladder.proofs.Cases.{le-or-lt}
 use Rattle.ladder.proofs.Magnitude.{magnitude-le}
 use Rattle.ladder.proofs.Multiples.{round-dvd, magnitude-dvd}
-use Rattle.ladder.proofs.Ordinals.{above-none, below-none, infinity-lt-sign}
+use Rattle.ladder.proofs.Ordinals.{above-none, below-none, infinity-lt-sign, finite-twice}
 use Rattle.ladder.proofs.Sum.{rounded-up, rounded-down}
 use Rattle.ladder.proofs.Granularity.{magnitude-power}
-use Rattle.ladder.proofs.Solutions.{Kept, swap, finite-in, finite-twice, mirror-bounded, mirror-solution}
+use Rattle.ladder.proofs.Solutions.{Kept, swap, finite-in, mirror-bounded, mirror-solution}
 
 module _ (f e : ℕ) (some : 1 ≤ f) where
   abbrev s : ℕ

@@ -1,4 +1,4 @@
--- The number of binary digits of a number shifted left, and of its half. Assumes nothing.
+-- The number of binary digits of a number from a power of two on, of one shifted left, and of a half. Assumes nothing.
 use mathlib.Core.Path.{_≡_, ap}
 use mathlib.Core.Logic.{inl, inr}
 use Prim.Native.Nat.{ℕ, _+_, _-_, _*_, _/_, _^_, _≤_, _<_}
@@ -10,18 +10,18 @@ use lib.Ieee.Digits.{size-lt, size-le, size-reaches}
 use Rattle.ladder.proofs.Cases.{le-or-lt}
 use Rattle.ladder.proofs.Rounding.{even-pow}
 
--- more than j digits reach 2 ^ j
-lt-size : (n j : ℕ) → 2 ^ j ≤ n → j < size n
+-- what reaches 2 ^ j has more than j digits
+pub lt-size : (n j : ℕ) → 2 ^ j ≤ n → j < size n
 lt-size n j h = lt-of-not-le (λ (g : size n ≤ j). not-le-of-lt (lt-of-lt-of-le (size-lt n) (pow-mono g)) h)
 
 pub size-scale : (n t : ℕ) → 0 < n → size (n * 2 ^ t) ≡ size n + t
 size-scale n t N =
     let z = size n in
-    let p : 0 < z = lt-of-not-le (λ (g : z ≤ 0). not-le-of-lt (lt-of-lt-of-le (size-lt n) (pow-mono g)) N) in
+    let p : 0 < z = lt-size n 0 N in
     let lo : 2 ^ (z - 1) * 2 ^ t ≤ n * 2 ^ t = mul-le-mul-right (2 ^ t) (size-reaches n (z - 1) (omega arith)) in
     let hi : n * 2 ^ t < 2 ^ z * 2 ^ t = mul-lt-mul-of-pos-right (size-lt n) (pow-pos t) in
     let a : size (n * 2 ^ t) ≤ z + t = size-le (n * 2 ^ t) (z + t) (omega (arith, pow-add 2 z t)) in
-    let b : z - 1 + t < size (n * 2 ^ t) = lt-of-not-le (λ (g : size (n * 2 ^ t) ≤ z - 1 + t). not-le-of-lt (lt-of-lt-of-le (size-lt (n * 2 ^ t)) (pow-mono g)) (omega (arith, pow-add 2 (z - 1) t))) in
+    let b : z - 1 + t < size (n * 2 ^ t) = lt-size (n * 2 ^ t) (z - 1 + t) (omega (arith, pow-add 2 (z - 1) t)) in
     omega arith
 
 pub size-half : (n : ℕ) → size (n / 2) ≡ size n - 1

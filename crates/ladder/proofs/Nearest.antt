@@ -11,14 +11,14 @@ use Rattle.ladder.specs.Nearest.{distance, error, Nearest}
 use Rattle.ladder.proofs.Cases.{le-or-lt}
 use Rattle.ladder.proofs.Magnitude.{magnitude-lt, magnitude-zero}
 use Rattle.ladder.proofs.Rounding.{round-nearest, round-even}
-use Rattle.ladder.proofs.Ordinals.{infinity-lt-sign, sign-even, above-none, below-none}
+use Rattle.ladder.proofs.Ordinals.{sign-even, above-none, below-none, mirror-finite, finite-twice}
 use Rattle.ladder.proofs.Sum.{rounded-up, rounded-mirror, above-mirror, below-mirror}
 
 module _ (f e : ℕ) (some : 1 ≤ f) where
   abbrev s : ℕ
   s = sign f e
 
-  -- how far an ordinal is from n units above zero
+  -- how far an ordinal is from p - n units, which are not below zero
   error-up : (p n y : ℕ) → n ≤ p → s ≤ y → error f e p n y ≡ distance (p - n) (magnitude f (y - s))
   unfolding error
   error-up p n y h l = omega (arith, below-none f e y l)
@@ -55,22 +55,16 @@ module _ (f e : ℕ) (some : 1 ≤ f) where
   unfolding error
   error-mirror p n y h = omega (arith, above-mirror f e some y, below-mirror f e some y h)
 
-  finite-mirror : (y : ℕ) → Finite f e y → Finite f e (mirrored f e y)
-  finite-mirror y h = record { low = omega (arith, h .low, h .high, infinity-lt-sign f e); high = omega (arith, h .low, h .high, infinity-lt-sign f e) }
-
-  double : (y : ℕ) → Finite f e y → y ≤ 2 * s
-  double y h = omega (arith, h .high, infinity-lt-sign f e)
-
   -- what is nearest to n - p units, mirrored, is nearest to p - n units
   turned : (p n r : ℕ) → Finite f e r → Nearest f e n p r → Nearest f e p n (mirrored f e r)
   turned p n r R h =
-      let er = error-mirror n p r (double r R) in
+      let er = error-mirror n p r (finite-twice f e r R) in
       record {
-        nearest = λ y Y. omega (arith, er, error-mirror p n y (double y Y), h .nearest (mirrored f e y) (finite-mirror y Y));
+        nearest = λ y Y. omega (arith, er, error-mirror p n y (finite-twice f e y Y), h .nearest (mirrored f e y) (mirror-finite f e y Y));
         even = λ y Y ne same.
-            let d = double y Y in
-            let z = h .even (mirrored f e y) (finite-mirror y Y) (λ z. ne (omega (arith, double r R))) (omega (arith, er, error-mirror p n y d)) in
-            omega (arith, sign-even f e some, double r R);
+            let d = finite-twice f e y Y in
+            let z = h .even (mirrored f e y) (mirror-finite f e y Y) (λ z. ne (omega (arith, finite-twice f e r R))) (omega (arith, er, error-mirror p n y d)) in
+            omega (arith, sign-even f e some, finite-twice f e r R);
       }
 
   rounded-nearest : (p n : ℕ) → Finite f e (rounded f e p n) → Nearest f e p n (rounded f e p n)
@@ -79,7 +73,7 @@ module _ (f e : ℕ) (some : 1 ≤ f) where
     | inr h ↦
         let m = rounded-mirror f e some n p in
         let r = rounded f e n p in
-        let R : Finite f e r = subst (Finite f e) (sym (rounded-mirror f e some p n)) (finite-mirror (rounded f e p n) fin) in
+        let R : Finite f e r = subst (Finite f e) (sym (rounded-mirror f e some p n)) (mirror-finite f e (rounded f e p n) fin) in
         subst (Nearest f e p n) (sym m) (turned p n r R (up n p (omega arith) R))
   ]
 

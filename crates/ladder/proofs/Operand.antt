@@ -8,7 +8,8 @@ use Rattle.ladder.specs.Solution.{Interval}
 use Rattle.ladder.specs.Search.{Never, Least, Greatest, Attains, Stays, Bounded, reflection}
 use Rattle.ladder.proofs.Sum.{sum-mirror}
 use Rattle.ladder.proofs.Extremes.{mirror-never, mirror-greatest}
-use Rattle.ladder.proofs.Solutions.{in-reflection, in-reflected, finite-in, finite-twice, mirror-bounded}
+use Rattle.ladder.proofs.Solutions.{in-reflection, in-reflected, finite-in, mirror-bounded}
+use Rattle.ladder.proofs.Ordinals.{finite-twice}
 
 module _ (f e : ℕ) (some : 1 ≤ f) (a b : ℕ) (I : Interval) (fa : Finite f e a) (fb : Finite f e b) (n : Bounded f e I) where
   abbrev Mirrored : ℕ → Type 0

@@ -6,7 +6,7 @@ use Prim.Native.Nat.{ℕ, _+_, _-_, _*_, _^_, _≤_, _<_}
 use native.Mathlib.Omega.{arith}
 use lib.Pow.{pow-pos, pow-add}
 use borrow.Author.Tests.{lt-ltb, le-ltb, eq-eqb, ne-eqb, ltb-true}
-use Rattle.ladder.specs.Ordinal.{sign, infinity, isFinite, ordinal, pattern, canonical, Finite, above, below}
+use Rattle.ladder.specs.Ordinal.{sign, infinity, isFinite, ordinal, pattern, canonical, mirrored, Finite, above, below}
 use Rattle.ladder.proofs.Cases.{le-or-lt, trichotomy}
 use Rattle.ladder.proofs.Magnitude.{magnitude-lt, magnitude-le, magnitude-zero}
 use Rattle.ladder.proofs.Rounding.{even-pow}
@@ -134,3 +134,10 @@ module _ (f e : ℕ) where
 
   pub below-none : (r : ℕ) → s ≤ r → below f e r ≡ 0
   below-none r h = magnitude-zero f (s - r) (omega arith)
+
+-- ---- mirrored
+pub mirror-finite : (f e r : ℕ) → Finite f e r → Finite f e (mirrored f e r)
+mirror-finite f e r n = let c = infinity-lt-sign f e in record { low = omega arith; high = omega arith }
+
+pub finite-twice : (f e r : ℕ) → Finite f e r → r ≤ 2 * sign f e
+finite-twice f e r n = omega (arith, infinity-lt-sign f e)

@@ -21,6 +21,9 @@ use Rattle.ladder.proofs.Sum.{rounded-up, rounded-down}
 halves : (d t s : ℕ) → s ≡ 2 * t → d * s + suc d * s ≡ 2 * ((2 * d + 1) * t)
 halves d t s e = omega (arith, ap (λ (x : ℕ). d * x) e)
 
+less-half : (d p s t : ℕ) → suc d ≡ 4 * p → s ≡ 2 * t → 2 * p * s - t ≡ d * t
+less-half d p s t h e = omega (arith, ap (λ (x : ℕ). x * t) h, ap (λ (x : ℕ). 2 * p * x) e)
+
 module _ (f : ℕ) (some : 1 ≤ f) where
   -- k + 3 is the exponent field of infinity: m is the largest finite one, suc m infinity
   twice-bound : (k m : ℕ) → suc m ≡ (k + 3) * 2 ^ f → magnitude f m + magnitude f (suc m) ≡ 2 * ((4 * 2 ^ f - 1) * 2 ^ k)
@@ -49,7 +52,9 @@ module _ (f e : ℕ) (some : 1 ≤ f) (two : 2 ≤ e) where
       let z : 2 ^ e - 1 ≡ k + 3 = omega arith in
       let i : (2 ^ e - 1) * 2 ^ f ≡ (k + 3) * 2 ^ f = ap (λ (x : ℕ). x * 2 ^ f) z in
       let c = reaches f some n k ((k + 3) * 2 ^ f - 1) (omega (arith, pow-pos f)) in
-      (λ h. c .0 (omega (arith, pow-pos f)), λ h. omega (arith, c .1 h))
+      let v : magnitude f ((2 ^ e - 1) * 2 ^ f) ≡ 2 * 2 ^ f * 2 ^ suc k = ap (magnitude f) (i ∙ omega arith) ∙ magnitude-high f (suc k) (2 * 2 ^ f) (omega (arith, pow-pos f)) (omega arith) in
+      let w : magnitude f ((2 ^ e - 1) * 2 ^ f) - 2 ^ k ≡ (4 * 2 ^ f - 1) * 2 ^ k = ap (λ (x : ℕ). x - 2 ^ k) v ∙ less-half (4 * 2 ^ f - 1) (2 ^ f) (2 ^ suc k) (2 ^ k) (omega (arith, pow-pos f)) (pow-succ' 2 k) in
+      (λ h. omega (arith, c .0 (omega (arith, pow-pos f))), λ h. omega (arith, c .1 (omega arith)))
 
   rounded-overflow : (p n : ℕ) → (Finite f e (rounded f e p n) → ⊥) ↔ (bound f e ≤ distance p n)
   rounded-overflow p n = let c = infinity-lt-sign f e in elim (le-or-lt p n) [
@@ -79,9 +84,9 @@ module _ (f e : ℕ) (some : 1 ≤ f) (two : 2 ≤ e) where
 
 -- ---- 01's figures: the units are 2^-149 and 2^-1074
 pub no-finite-sum-32 : (x a : ℕ) → (Finite 23 8 (sum 23 8 x a) → ⊥) ↔ ((2 ^ 128 - 2 ^ 103) * 2 ^ 149 ≤ distance (gains 23 8 x a) (losses 23 8 x a))
-unfolding bound
+unfolding bound magnitude infinity
 no-finite-sum-32 x a = no-finite-sum 23 8 (lit≤ tt) (lit≤ tt) x a
 
 pub no-finite-sum-64 : (x a : ℕ) → (Finite 52 11 (sum 52 11 x a) → ⊥) ↔ ((2 ^ 1024 - 2 ^ 970) * 2 ^ 1074 ≤ distance (gains 52 11 x a) (losses 52 11 x a))
-unfolding bound
+unfolding bound magnitude infinity
 no-finite-sum-64 x a = no-finite-sum 52 11 (lit≤ tt) (lit≤ tt) x a

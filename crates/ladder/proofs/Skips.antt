@@ -1,5 +1,5 @@
--- At most two turns bring the walk to the corner, or show that there is no triple. A turn that goes too far skips B: one number's sum falls short, the next one's is past B. Below zero the clamp excludes that, since the step divides a value of B;
--- above zero the smaller of the two operands skips nothing, since its step divides the other and every larger value. So of two turns at most one skips B; that x, going up in the second, does not become the larger operand is monotonicity. Assumes nothing.
+-- No turn of the walk that skips B is followed by another that does; Walk concludes that two turns are enough. A turn that goes too far skips B: one number's sum falls short, the next one's is past B. Below zero the clamp excludes that, since the step divides a value of B;
+-- above zero the smaller of the two operands skips nothing, since its step divides the other and every larger value. So of two turns at most one skips B; that x, going up in the second, does not become the larger operand is monotonicity. Also on which side of an ordinal a sum lies, in exact values. Assumes nothing.
 use mathlib.Core.Path.{_≡_, sym, ap, _∙_, subst}
 use mathlib.Core.Logic.{inl, inr}
 use Prim.Native.Nat.{ℕ, _+_, _-_, _*_, _/_, _^_, _≤_, _<_, _∣_}
@@ -19,11 +19,15 @@ use Rattle.ladder.proofs.Solutions.{mirror-bounded}
 use Rattle.ladder.proofs.Sum.{rounded-mono, rounded-value, above-mirror, below-mirror, sum-mono, sum-mirror, sum-range}
 
 -- ---- multiples
--- no multiple of g lies between u and the next one
-pub between : (g u v : ℕ) → g ∣ u → g ∣ v → u < v → v < u + g → ⊥
-between g u v d c l h =
+-- the next multiple of g is g further on
+pub apart : (g u v : ℕ) → g ∣ u → g ∣ v → u < v → u + g ≤ v
+apart g u v d c l =
     let t = le-of-dvd (omega arith) (dvd-sub g c d) in
     omega arith
+
+-- none lies between
+between : (g u v : ℕ) → g ∣ u → g ∣ v → u < v → v < u + g → ⊥
+between g u v d c l h = omega (arith, apart g u v d c l)
 
 -- the step after m divides every value from m on
 pub step-dvd : (f m m' : ℕ) → m ≤ m' → 2 ^ shift f m ∣ magnitude f m'

@@ -6,7 +6,7 @@ use Rattle.ladder.specs.Ordinal.{sign, mirrored, Finite}
 use Rattle.ladder.specs.Solution.{Interval, In, Solution}
 use Rattle.ladder.specs.Narrowing.{HasX, HasA, HasB, Spans}
 use Rattle.ladder.specs.Search.{Never, Least, Greatest, Corner, Bounded, reflection}
-use Rattle.ladder.proofs.Ordinals.{infinity-lt-sign}
+use Rattle.ladder.proofs.Ordinals.{mirror-finite, finite-twice}
 use Rattle.ladder.proofs.Sum.{sum-comm, sum-mirror}
 use Rattle.ladder.proofs.Extremes.{mirror-greatest}
 
@@ -51,17 +51,11 @@ module _ (f e : ℕ) (X A B X' A' B' : Interval) (k : Kept f e X A B X' A' B') w
       record { frontier = record { x-in = s .x-in; a-in = s .a-in; least = λ y w. l .frontier .least y (kept-x y w); most = λ y w. l .frontier .most y (kept-a y w) }; solution = s }
 
 -- ---- mirrored
-pub mirror-finite : (f e r : ℕ) → Finite f e r → Finite f e (mirrored f e r)
-mirror-finite f e r n = let c = infinity-lt-sign f e in record { low = omega arith; high = omega arith }
-
 pub mirror-bounded : (f e : ℕ) (I : Interval) → Bounded f e I → Bounded f e (reflection f e I)
 mirror-bounded f e I n = record { low = mirror-finite f e (I .high) (n .high); high = mirror-finite f e (I .low) (n .low) }
 
 pub finite-in : (f e : ℕ) (I : Interval) → Bounded f e I → (y : ℕ) → In I y → Finite f e y
 finite-in f e I n y i = record { low = omega arith; high = omega arith }
-
-pub finite-twice : (f e r : ℕ) → Finite f e r → r ≤ 2 * sign f e
-finite-twice f e r n = omega (arith, infinity-lt-sign f e)
 
 pub in-reflection : (f e : ℕ) (I : Interval) (y : ℕ) → In I y → In (reflection f e I) (mirrored f e y)
 in-reflection f e I y i = record { low = omega arith; high = omega arith }

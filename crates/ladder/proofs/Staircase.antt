@@ -3,7 +3,7 @@
 use mathlib.Core.Path.{_≡_, sym, ap, _∙_, subst}
 use mathlib.Core.Logic.{inl, inr}
 use Prim.Native.Nat.{ℕ, zero, suc, _+_, _-_, _^_, _≤_, _<_, _∣_}
-use native.Mathlib.Nat.{le-refl, le-trans, le-of-dvd, dvd-sub, dvd-add}
+use native.Mathlib.Nat.{le-refl, le-trans, dvd-add}
 use native.Mathlib.Omega.{arith}
 use Rattle.ladder.specs.Magnitude.{magnitude, shift}
 use Rattle.ladder.specs.Ordinal.{sign, above, below, mirrored, Finite}
@@ -17,13 +17,7 @@ use Rattle.ladder.proofs.Multiples.{pow-dvd}
 use Rattle.ladder.proofs.Ordinals.{infinity-lt-sign, above-none, below-none}
 use Rattle.ladder.proofs.Solutions.{finite-in, mirror-bounded}
 use Rattle.ladder.proofs.Sum.{rounded-mono, rounded-value, sum-comm, sum-mono}
-use Rattle.ladder.proofs.Skips.{step-dvd, rounded-shift, short-value, past-value, skips-none, zero-in-none, mirror-skips}
-
--- the next multiple of g is g further on
-apart : (g u v : ℕ) → g ∣ u → g ∣ v → u < v → u + g ≤ v
-apart g u v d c l =
-    let t = le-of-dvd (omega arith) (dvd-sub g c d) in
-    omega arith
+use Rattle.ladder.proofs.Skips.{apart, step-dvd, rounded-shift, short-value, past-value, skips-none, zero-in-none, mirror-skips}
 
 module _ (f e : ℕ) (some : 1 ≤ f) where
   abbrev s : ℕ
@@ -171,7 +165,7 @@ module _ (f e : ℕ) (some : 1 ≤ f) where
           omega (arith, r, ap (sum f e (A .low)) at, ap (sum f e a) at', sum-comm f e y (A .low), sum-comm f e x a)
 
       -- b below zero, and a step of x above zero skips it: the least a with X's low end is no worse, or the least x with the a before that
-      high-best : b < s → (z : ℕ) → Least (Attains f e (X .low) b A) z → (t : ℕ) → t ≤ sum f e z (X .low) → (A .low < z → AtMost f e b X (z - 1) t) → (x a : ℕ) → In X x → In A a → X .low < x → A .low < a → s < x → Skips f e B a (x - 1) → sum f e x (a - 1) < b
+      high-best : b < s → (z : ℕ) → Least (Attains f e (X .low) b A) z → (t : ℕ) → t ≤ sum f e z (X .low) → (A .low < z → AtMost f e (z - 1) b X t) → (x a : ℕ) → In X x → In A a → X .low < x → A .low < a → s < x → Skips f e B a (x - 1) → sum f e x (a - 1) < b
           → b ≤ sum f e x a → t ≤ sum f e x a
       high-best down z l t ht u x a i j hx ha o k h g =
           let zi = l .holds .inside in
@@ -189,7 +183,7 @@ module _ (f e : ℕ) (some : 1 ≤ f) where
             | inr q ↦ go xs q (u (omega arith))
           ]
         where
-          go : s < X .low → a < z → AtMost f e b X (z - 1) t → t ≤ sum f e x a
+          go : s < X .low → a < z → AtMost f e (z - 1) b X t → t ≤ sum f e x a
           go xs q (none w) = absurd (w x (record { inside = i; enough = le-trans g (sum-mono f e some x x a (z - 1) (le-refl x) (omega arith)) }))
           go xs q (least y m hy) =
               let zi = l .holds .inside in
@@ -213,8 +207,8 @@ module _ (f e : ℕ) (some : 1 ≤ f) where
     -- ---- every sum that reaches b
     module _
         (X A : Interval) (nx : Bounded f e X) (na : Bounded f e A) (no-sum : (x a : ℕ) → In X x → In A a → sum f e x a ≡ b → ⊥) (r1 : b ≤ sum f e (X .low) (A .high)) (r2 : b ≤ sum f e (X .high) (A .low))
-        (t : ℕ) (p1 : AtMost f e b X (A .low) t) (p2 : AtMost f e b A (X .low) t)
-        (p3 : b < s → (z : ℕ) → Least (Attains f e (X .low) b A) z → A .low < z → AtMost f e b X (z - 1) t) (p4 : b < s → (y : ℕ) → Least (Attains f e (A .low) b X) y → X .low < y → AtMost f e b A (y - 1) t) where
+        (t : ℕ) (p1 : AtMost f e (A .low) b X t) (p2 : AtMost f e (X .low) b A t)
+        (p3 : b < s → (z : ℕ) → Least (Attains f e (X .low) b A) z → A .low < z → AtMost f e (z - 1) b X t) (p4 : b < s → (y : ℕ) → Least (Attains f e (A .low) b X) y → X .low < y → AtMost f e (y - 1) b A t) where
       swapped : (a x : ℕ) → In A a → In X x → sum f e a x ≡ b → ⊥
       swapped a x j i h = no-sum x a i j (sum-comm f e x a ∙ h)
 
@@ -225,7 +219,7 @@ module _ (f e : ℕ) (some : 1 ≤ f) where
           reach : Attains f e (X .low) b A a
           reach = record { inside = j; enough = omega (arith, sum-mono f e some x (X .low) a a l (le-refl a), sum-comm f e a (X .low), g) }
 
-          go : AtMost f e b A (X .low) t → t ≤ sum f e x a
+          go : AtMost f e (X .low) b A t → t ≤ sum f e x a
           go (none w) = absurd (w a reach)
           go (least z m h) = omega (arith, sum-mono f e some (X .low) x z a (i .low) (m .least a reach), sum-comm f e z (X .low), h)
 
@@ -235,7 +229,7 @@ module _ (f e : ℕ) (some : 1 ≤ f) where
           reach : Attains f e (A .low) b X x
           reach = record { inside = i; enough = omega (arith, sum-mono f e some x x a (A .low) (le-refl x) l, g) }
 
-          go : AtMost f e b X (A .low) t → t ≤ sum f e x a
+          go : AtMost f e (A .low) b X t → t ≤ sum f e x a
           go (none w) = absurd (w x reach)
           go (least y m h) = omega (arith, sum-mono f e some y x (A .low) a (m .least x reach) (j .low), h)
 
@@ -256,7 +250,7 @@ module _ (f e : ℕ) (some : 1 ≤ f) where
         nb : Bounded f e B
         nb = record { low = n; high = n }
 
-        positive-case : s < b → AtMost f e b X (A .low) t → AtMost f e b A (X .low) t → t ≤ sum f e x a
+        positive-case : s < b → AtMost f e (A .low) b X t → AtMost f e (X .low) b A t → t ≤ sum f e x a
         positive-case up (none q) m = absurd (q (X .high) (record { inside = record { low = omega arith; high = le-refl (X .high) }; enough = r2 }))
         positive-case up (least y l h) (none q) = absurd (q (A .high) (record { inside = record { low = omega arith; high = le-refl (A .high) }; enough = omega (arith, r1, sum-comm f e (A .high) (X .low)) }))
         positive-case up (least y l h) (least z m k) = elim (le-or-lt s (x - 1)) [
@@ -270,7 +264,7 @@ module _ (f e : ℕ) (some : 1 ≤ f) where
           | inr o ↦ omega (arith, low-best X A nx na no-sum up y l x a i j hx ha (omega arith) g k1 w, h)
         ]
 
-        negative-case : b < s → AtMost f e b X (A .low) t → AtMost f e b A (X .low) t → t ≤ sum f e x a
+        negative-case : b < s → AtMost f e (A .low) b X t → AtMost f e (X .low) b A t → t ≤ sum f e x a
         negative-case down (none q) m = absurd (q (X .high) (record { inside = record { low = omega arith; high = le-refl (X .high) }; enough = r2 }))
         negative-case down (least y l h) (none q) = absurd (q (A .high) (record { inside = record { low = omega arith; high = le-refl (A .high) }; enough = omega (arith, r1, sum-comm f e (A .high) (X .low)) }))
         negative-case down (least y l h) (least z m k) = elim (le-or-lt s (x - 1)) [
@@ -328,6 +322,6 @@ module _ (f e : ℕ) (some : 1 ≤ f) where
         least = λ y v. let r = v .solution in let d = lowest (v .x) (v .a) (r .x-in) (r .a-in) (omega (arith, r .is, r .b-in .low)) in omega (arith, r .is);
       }
 
-pub at-most-less : {f e b c t u : ℕ} {X : Interval} → u ≤ t → AtMost f e b X c t → AtMost f e b X c u
+pub at-most-less : {f e b c t u : ℕ} {X : Interval} → u ≤ t → AtMost f e c b X t → AtMost f e c b X u
 at-most-less l (none w) = none w
 at-most-less l (least y m h) = least y m (le-trans l h)

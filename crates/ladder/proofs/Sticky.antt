@@ -2,16 +2,15 @@
 use mathlib.Core.Path.{_≡_, ap, _∙_}
 use mathlib.Core.Logic.{inl, inr}
 use Prim.Native.Nat.{ℕ, suc, _+_, _-_, _*_, _^_, _≤_, _<_}
-use native.Mathlib.Nat.{le-refl, le-antisymm, le-trans, lt-of-lt-of-le, lt-of-not-le, not-le-of-lt, mul-le-mul-right, mul-le-mul, lt-of-mul-lt-mul-right, pow-succ'}
+use native.Mathlib.Nat.{le-refl, le-antisymm, le-trans, mul-le-mul-right, mul-le-mul, lt-of-mul-lt-mul-right, pow-succ'}
 use native.Mathlib.Omega.{arith}
 use lib.Pow.{pow-pos, pow-add, pow-mono}
 use lib.Ieee.{size}
-use lib.Ieee.Digits.{size-lt}
 use lib.Ieee.Nearest.{closest, closest-same}
 use Rattle.ladder.specs.Magnitude.{magnitude, shift, significand}
 use Rattle.ladder.specs.Rounding.{excess, round}
 use Rattle.ladder.proofs.Cases.{le-or-lt}
-use Rattle.ladder.proofs.Digits.{size-scale}
+use Rattle.ladder.proofs.Digits.{lt-size, size-scale}
 use Rattle.ladder.proofs.Magnitude.{parts, magnitude-parts, magnitude-suc}
 use Rattle.ladder.proofs.Central.{round-le}
 
@@ -50,7 +49,7 @@ pub round-scale : (f n t : ℕ) → 2 ^ f ≤ n → round f (n * 2 ^ t) ≡ t * 
 unfolding round excess
 round-scale f n t h =
     let k = excess f n in
-    let l : f < size n = lt-of-not-le (λ (g : size n ≤ f). not-le-of-lt (lt-of-lt-of-le (size-lt n) (pow-mono g)) h) in
+    let l : f < size n = lt-size n f h in
     let d : excess f (n * 2 ^ t) ≡ k + t = omega (arith, size-scale n t (omega (arith, pow-pos f))) in
     ap (λ (x : ℕ). x * 2 ^ f + closest (n * 2 ^ t) (2 ^ x)) d
     ∙ ap (λ (x : ℕ). (k + t) * 2 ^ f + x) (closest-same (n * 2 ^ t) (2 ^ (k + t)) n (2 ^ k) (pow-pos (k + t)) (pow-pos k) (omega (arith, ap (λ (x : ℕ). n * x) (pow-add 2 k t))))

@@ -35,9 +35,9 @@ pub record Stays (f e a b : ℕ) (I : Interval) (y : ℕ) : Type 0 where
   pub no-more : sum f e y a ≤ b
 
 -- t is no more than the least sum with a that is at least b, if one inside I has such a sum
-pub data AtMost (f e b : ℕ) (I : Interval) (a t : ℕ) : Type 0 where
-  none : Never (Attains f e a b I) → AtMost f e b I a t
-  least : (y : ℕ) → Least (Attains f e a b I) y → t ≤ sum f e y a → AtMost f e b I a t
+pub data AtMost (f e a b : ℕ) (I : Interval) (t : ℕ) : Type 0 where
+  none : Never (Attains f e a b I) → AtMost f e a b I t
+  least : (y : ℕ) → Least (Attains f e a b I) y → t ≤ sum f e y a → AtMost f e a b I t
 
 -- twice the midpoint of b and its lower neighbour, less twice a, which twice an operand must reach: so many units above zero
 abbrev pub crossingUp : ℕ → ℕ → ℕ → ℕ → ℕ

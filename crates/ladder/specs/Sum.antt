@@ -1,5 +1,6 @@
 -- 01's x ⊕ a on ordinals: the exact sum in units, rounded. A sum with no finite result has the ordinal of an infinity, which lies just beyond the finite ones. Assumes nothing.
-use Prim.Native.Nat.{ℕ, _+_, _-_, _*_, _^_, min}
+use Prim.Native.Nat.{ℕ, _+_, _-_, _^_, min}
+use Rattle.ladder.specs.Magnitude.{magnitude}
 use Rattle.ladder.specs.Rounding.{round}
 use Rattle.ladder.specs.Ordinal.{sign, infinity, above, below}
 
@@ -19,6 +20,6 @@ losses f e x a = below f e x + below f e a
 unfoldable pub sum : ℕ → ℕ → ℕ → ℕ → ℕ
 sum f e x a = rounded f e (gains f e x a) (losses f e x a)
 
--- 01's bound in units: from this size of the exact sum on no finite sum exists. It is half an ulp beyond the largest finite float
+-- 01's bound in units: from this size of the exact sum on no finite sum exists. It is the value at infinity's place, 2^128 or 2^1024, less half an ulp of the largest finite float, 2^103 or 2^970
 unfoldable pub bound : ℕ → ℕ → ℕ
-bound f e = (4 * 2 ^ f - 1) * 2 ^ (2 ^ e - 4)
+bound f e = magnitude f (infinity f e) - 2 ^ (2 ^ e - 4)

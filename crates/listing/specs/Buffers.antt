@@ -35,7 +35,7 @@ sizeIn bytes out = cond (leb (length bytes) (length out)) (Length (length bytes)
 unfoldable pub storedIn : List ℕ → List ℕ → List ℕ
 storedIn bytes out = cond (leb (length bytes) (length out)) (bytes ++ drop (length bytes) out) out
 
--- ---- a run: a refusal is answered and leaves the buffer; 11 and 12 are none here, and 13 is tested last
+-- ---- a run: a refusal is answered and leaves the buffer; 11 and 12 are no refusals here, and 13 is tested last
 abbrev pub unlessRefused : {A : Type 0} → Outcome → (Refusal → A) → A → A
 unlessRefused (Outcome.Settled p) refused rest = rest
 unlessRefused (Outcome.NoTriple p k) refused rest = rest

@@ -8,7 +8,6 @@ use crate::digits::put_pattern;
 use crate::store::copy;
 use crate::store::put;
 use arith::interval::Interval;
-use arith::refusal::Refusal;
 use sheet::passes::Outcome;
 
 // A word, a tab, a number and the byte after it.

@@ -43,7 +43,7 @@ fn show_many(head: &[u8], line: &[u8], n: usize) {
     }
 }
 
-// 01's sheets: the whole listing with limit 1, and the two sums with limits 5 and 6; width 32; no sums; a sum of cells that share nothing.
+// 01's sheets: the whole listing with limit 1, and the two sums with limits 5 and 6; then width 32 with the largest limit; a cell and no sums; a head alone.
 fn sheets() {
     show(
         b"sheet\t64\t1\ncell\tC630000000000000\tC330000000000000\ncell\t3FF0000000000000\t4630000000000000\ncell\t3FE0000000000000\t3FF8000000000000\nsum\t0\t1\t2\n",

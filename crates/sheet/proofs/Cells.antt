@@ -7,8 +7,8 @@ use Rattle.arith.specs.declared.refusal.Refusal.{Refusal}
 use Rattle.arith.specs.declared.interval.Interval.{Interval}
 use Rattle.arith.specs.declared.interval.Image.{Image}
 use Rattle.arith.specs.declared.interval.Image.the-variants.{Is, Refused}
-use Rattle.arith.specs.Intervals.{canonicalOf}
-use Rattle.arith.proofs.Valid.{Valid, canonical-is, is-valid, refused-number}
+use Rattle.arith.specs.Intervals.{canonicalOf, Valid}
+use Rattle.arith.proofs.Valid.{canonical-is, is-valid, refused-number}
 use Rattle.sheet.specs.Cells.{canonicalCell}
 use Rattle.sheet.specs.Faults.{imageNumber, cellFault}
 

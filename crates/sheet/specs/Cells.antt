@@ -4,8 +4,7 @@ use Prim.Native.Nat.{ℕ}
 use Rattle.ladder.specs.Solution as L
 use Rattle.arith.specs.declared.interval.Interval.{Interval}
 use Rattle.arith.specs.Formats.{formatOf}
-use Rattle.arith.specs.Intervals.{rangeOf}
-use Rattle.arith.specs.Searches.{span}
+use Rattle.arith.specs.Intervals.{rangeOf, span}
 use Rattle.arith.specs.Narrows.{written}
 use Rattle.sheet.specs.Boxes.{Box}
 

@@ -5,7 +5,7 @@ use Rattle.ladder.specs.Search.{reflection, raised}
 use Rattle.ladder.proofs.Solutions.{mirror-bounded}
 use Rattle.ladder.proofs.Clamp.{raised-bounded}
 use Rattle.arith.specs.declared.range.Range.{Range}
-use Rattle.arith.specs.Searches.{span}
+use Rattle.arith.specs.Intervals.{span}
 use Rattle.arith.proofs.Bounds.{bounded, ends-of}
 use Rattle.arith.proofs.clamp.lower.Statement.{statement}
 use Rattle.arith.proofs.clamp.lower.Tie as tie

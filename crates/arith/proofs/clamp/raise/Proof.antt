@@ -3,7 +3,7 @@ use mathlib.Core.Path.{ap, _∙_}
 use Prim.Native.Nat.{ℕ, _/_, _^_}
 use native.Mathlib.Omega.{arith}
 use borrow.Author.Needs.{needs}
-use Rattle.arith.specs.Searches.{span}
+use Rattle.arith.specs.Intervals.{span}
 use Rattle.arith.proofs.Clamping.{raised-at, raised-none, raised-fits}
 use Rattle.arith.proofs.clamp.raise.Statement.{statement}
 use Rattle.arith.proofs.clamp.raise.Tie as tie

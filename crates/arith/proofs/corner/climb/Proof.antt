@@ -6,7 +6,8 @@ use Rattle.ladder.proofs.Solutions.{finite-in}
 use Rattle.ladder.proofs.Walk.{climb-none, climb-once, climb-end, climbs}
 use Rattle.arith.specs.declared.operand.Found.the-variants.{At, Absent}
 use Rattle.arith.specs.Formats.{Finite}
-use Rattle.arith.specs.Searches.{span, Attains, Stays, LeastOf, GreatestOf}
+use Rattle.arith.specs.Searches.{Attains, Stays, LeastOf, GreatestOf}
+use Rattle.arith.specs.Intervals.{span}
 use Rattle.arith.proofs.Bounds.{bounded}
 use Rattle.arith.proofs.corner.climb.Statement.{statement}
 use Rattle.arith.proofs.corner.climb.Tie as tie

@@ -10,7 +10,8 @@ use Rattle.ladder.proofs.LeastSum.{low-least}
 use Rattle.ladder.proofs.Staircase.{lowest-least, at-most-less}
 use Rattle.arith.specs.declared.corner.Corner.the-variants as Corner
 use Rattle.arith.specs.Formats.{sum}
-use Rattle.arith.specs.Searches.{span, CornerOf}
+use Rattle.arith.specs.Searches.{CornerOf}
+use Rattle.arith.specs.Intervals.{span}
 use Rattle.arith.proofs.Bounds.{bounded}
 use Rattle.arith.proofs.extent.least_above.Statement.{statement}
 use Rattle.arith.proofs.extent.least_above.Tie as tie

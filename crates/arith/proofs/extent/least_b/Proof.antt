@@ -4,14 +4,14 @@ use mathlib.Core.Logic.{_⊎_, inl, inr}
 use Prim.Native.Nat.{ℕ, _≤_}
 use native.Mathlib.Omega.{arith}
 use borrow.Author.Needs.{needs}
+use Rattle.ladder.specs.Search.{Least}
 use Rattle.ladder.proofs.Sum.{sum-comm}
 use Rattle.ladder.proofs.Solutions.{swap-b}
 use Rattle.ladder.proofs.LeastSum.{lows-least, floor-least}
 use Rattle.arith.specs.declared.range.Range.{Range}
-use Rattle.arith.specs.declared.operand.Found.the-variants as Found
 use Rattle.arith.specs.Formats.{Sound, sum}
-use Rattle.arith.specs.Intervals.{Ends}
-use Rattle.arith.specs.Searches.{span, LeastOf, HasB}
+use Rattle.arith.specs.Intervals.{Ends, span}
+use Rattle.arith.specs.Searches.{HasB}
 use Rattle.arith.proofs.extent.least_b.Statement.{statement}
 use Rattle.arith.proofs.extent.least_b.Tie as tie
 
@@ -53,7 +53,7 @@ returns-3 c =
     let z = c .before .before .before .before .before .before .before in
     let F = z .args .format in
     let r = c .least-with .result in
-    chosen (λ (X A : Range). LeastOf (HasB F X A (z .args .b)) (Found.At r) → LeastOf (HasB F (z .args .x) (z .args .a) (z .args .b)) (Found.At r)) (z .args .x) (z .args .a) _ _ (λ l. l) (λ l. record { holds = swap-b (F .fraction) (F .exponent) (span (z .args .a)) (span (z .args .x)) (span (z .args .b)) _ (l .holds); least = λ y v. l .least y (swap-b (F .fraction) (F .exponent) (span (z .args .x)) (span (z .args .a)) (span (z .args .b)) y v) }) (c .before .farther-first .ensures) (c .least-with .ensures)
+    chosen (λ (X A : Range). Least (HasB F X A (z .args .b)) r → Least (HasB F (z .args .x) (z .args .a) (z .args .b)) r) (z .args .x) (z .args .a) _ _ (λ l. l) (λ l. record { holds = swap-b (F .fraction) (F .exponent) (span (z .args .a)) (span (z .args .x)) (span (z .args .b)) _ (l .holds); least = λ y v. l .least y (swap-b (F .fraction) (F .exponent) (span (z .args .x)) (span (z .args .a)) (span (z .args .b)) y v) }) (c .before .farther-first .ensures) (c .least-with .ensures)
 
 pub least-b-spec : {M : Type 1} → statement M
 least-b-spec =

@@ -7,7 +7,8 @@ use Rattle.ladder.proofs.Solutions.{swap-b}
 use Rattle.ladder.proofs.LeastSum.{floor-least, none-below}
 use Rattle.ladder.proofs.Staircase.{at-most-less}
 use Rattle.arith.specs.declared.corner.Corner.the-variants as Corner
-use Rattle.arith.specs.Searches.{span, CornerOf, HasB}
+use Rattle.arith.specs.Searches.{CornerOf, HasB}
+use Rattle.arith.specs.Intervals.{span}
 use Rattle.arith.proofs.extent.least_with.Statement.{statement}
 use Rattle.arith.proofs.extent.least_with.Tie as tie
 

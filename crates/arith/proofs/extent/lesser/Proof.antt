@@ -6,7 +6,8 @@ use Rattle.ladder.specs.Search.{none, least}
 use Rattle.ladder.proofs.Solutions.{finite-in}
 use Rattle.ladder.proofs.LeastSum.{sums-nearer}
 use Rattle.arith.specs.declared.operand.Found.the-variants.{At, Absent}
-use Rattle.arith.specs.Searches.{span, Attains, LeastOf}
+use Rattle.arith.specs.Searches.{Attains, LeastOf}
+use Rattle.arith.specs.Intervals.{span}
 use Rattle.arith.proofs.Bounds.{bounded}
 use Rattle.arith.proofs.extent.lesser.Statement.{statement}
 use Rattle.arith.proofs.extent.lesser.Tie as tie
@@ -29,8 +30,8 @@ add-ordinals-requires c κs =
     let F = z .args .format in
     (z .pre .0, finite-in (F .fraction) (F .exponent) (span (z .args .x)) (bounded (z .pre .1)) _ (found c .holds .inside), finite-in (F .fraction) (F .exponent) (span (z .args .a)) (bounded (z .pre .2)) _ (record { low = z .pre .4; high = z .pre .5 }))
 
-less-requires : tie.Need-less-requires
-less-requires c κs = search needs
+min-requires : tie.Need-min-requires
+min-requires c κs = search needs
 
 enum-told : tie.Need-enum-told
 enum-told c = search needs
@@ -40,7 +41,7 @@ returns c =
     let z = c .before .before .before .before .before .before in
     let F = z .args .format in
     let l = found (c .before .before) in
-    let m = c .less .ensures in
+    let m = c .min .ensures in
     let s = c .before .add-ordinals .ensures in
     (rw (m, s) (sums-nearer (F .fraction) (F .exponent) (span (z .args .x)) (span (z .args .a)) (span (z .args .b)) (z .args .known) _ (z .args .c) (z .pre .6) (l .holds .inside) (record { low = z .pre .4; high = z .pre .5 }) (l .holds .enough)), omega (arith, m), least _ l (omega (arith, m, s)))
 
@@ -57,7 +58,7 @@ lesser-spec =
     least-operand-requires
     enum-known-y
     add-ordinals-requires
-    less-requires
+    min-requires
     enum-told
     returns
     returns-2)

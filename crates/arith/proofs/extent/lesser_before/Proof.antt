@@ -48,7 +48,7 @@ returns-3 c =
     let z = c .before .before .before .before .before .before .before in
     let l = found (c .before .before .before) in
     let r = c .lesser .ensures in
-    (r .0, r .1, λ y m h. let e : c .before .before .before .before .z .given .0 .0 ≡ y = omega (arith, m .least _ (l .holds), l .least y (m .holds)) in subst (λ (i : ℕ). AtMost (z .args .format) (z .args .b .low) (z .args .x) (i - 1) (c .lesser .result)) e (r .2))
+    (r .0, r .1, λ y m h. let e : c .before .before .before .before .z .given .0 .0 ≡ y = omega (arith, m .least _ (l .holds), l .least y (m .holds)) in subst (λ (i : ℕ). AtMost (z .args .format) (i - 1) (z .args .b .low) (z .args .x) (c .lesser .result)) e (r .2))
 
 pub lesser-before-spec : {M : Type 1} → statement M
 lesser-before-spec =

@@ -68,8 +68,8 @@ range-of-requires-2 c κs = (c .before .before .before .before .before .before .
 range-of-requires-3 : tie.Need-range-of-requires-3
 range-of-requires-3 c κs = (c .before .before .before .before .before .before .before .before .pre, finite-ends (c .before .before) .2)
 
-narrow-ordered-requires : tie.Need-narrow-ordered-requires
-narrow-ordered-requires c κs =
+narrow-finite-requires : tie.Need-narrow-finite-requires
+narrow-finite-requires c κs =
     let h = finite-ends (c .before .before .before) in
     (c .before .before .before .before .before .before .before .before .before .pre, range-ends _ _ _ (c .before .before .range-of .ensures) (h .0), range-ends _ _ _ (c .before .range-of2 .ensures) (h .1), range-ends _ _ _ (c .range-of3 .ensures) (h .2))
 
@@ -80,7 +80,7 @@ returns-4 c =
     passed Refused 2 _ _ (h .0)
     (passed Refused 2 _ _ (h .1)
     (passed Refused 2 _ _ (h .2)
-    (rw (← c .before .before .before .range-of .ensures, ← c .before .before .range-of2 .ensures, ← c .before .range-of3 .ensures) (c .narrow-ordered .ensures))))
+    (rw (← c .before .before .before .range-of .ensures, ← c .before .before .range-of2 .ensures, ← c .before .range-of3 .ensures) (c .narrow-finite .ensures))))
 
 pub narrow-in-spec : {M : Type 1} → statement M
 narrow-in-spec =
@@ -98,5 +98,5 @@ narrow-in-spec =
     range-of-requires
     range-of-requires-2
     range-of-requires-3
-    narrow-ordered-requires
+    narrow-finite-requires
     returns-4)

@@ -4,7 +4,8 @@ use Rattle.ladder.proofs.Solutions.{swap, swap-never}
 use Rattle.ladder.proofs.Corners.{corners-span}
 use Rattle.ladder.proofs.Assembly.{never-x, narrowed-kept, assembled}
 use Rattle.arith.specs.declared.corner.Corner.the-variants as Corner
-use Rattle.arith.specs.Searches.{span, CornerOf}
+use Rattle.arith.specs.Searches.{CornerOf}
+use Rattle.arith.specs.Intervals.{span}
 use Rattle.arith.proofs.Narrowings.{spans-ends}
 use Rattle.arith.proofs.narrow.narrow_ranges.Statement.{statement}
 use Rattle.arith.proofs.narrow.narrow_ranges.Tie as tie

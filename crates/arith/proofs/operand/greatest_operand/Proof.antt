@@ -1,11 +1,12 @@
 -- `arith::operand::greatest_operand` meets its contract: the greatest operand is read off in the mirror. Assumes nothing.
 use borrow.Author.Needs.{needs}
-use Rattle.ladder.proofs.Solutions.{finite-in, mirror-finite, mirror-bounded}
+use Rattle.ladder.proofs.Solutions.{finite-in, mirror-bounded}
+use Rattle.ladder.proofs.Ordinals.{mirror-finite}
 use Rattle.ladder.proofs.Operand.{greatest-operand, greatest-never}
 use Rattle.arith.specs.declared.operand.Found.the-variants.{At, Absent}
 use Rattle.arith.specs.Formats.{mirrored}
-use Rattle.arith.specs.Intervals.{reflected}
-use Rattle.arith.specs.Searches.{span, Attains, LeastOf}
+use Rattle.arith.specs.Intervals.{reflected, span}
+use Rattle.arith.specs.Searches.{Attains, LeastOf}
 use Rattle.arith.proofs.Intervals.{reflected-ends}
 use Rattle.arith.proofs.Bounds.{bounded}
 use Rattle.arith.proofs.operand.greatest_operand.Statement.{statement}

@@ -2,7 +2,7 @@
 use borrow.Author.Needs.{needs}
 use mathlib.Core.Path.{ap, _∙_}
 use Rattle.arith.specs.declared.sum.Sum.the-variants.{Refused}
-use Rattle.arith.proofs.Answers.{signed-finite, answer-large, answer-in}
+use Rattle.arith.proofs.Sums.{signed-finite, answer-large, answer-in}
 use Rattle.arith.proofs.sum.add_finite.Statement.{statement}
 use Rattle.arith.proofs.sum.add_finite.Tie as tie
 

@@ -1,6 +1,6 @@
 -- `arith::sum::sum_of` meets its contract. Assumes nothing.
 use borrow.Author.Needs.{needs}
-use Rattle.arith.proofs.Answers.{sum-large, sum-in}
+use Rattle.arith.proofs.Sums.{sum-large, sum-in}
 use Rattle.arith.proofs.sum.sum_of.Statement.{statement}
 use Rattle.arith.proofs.sum.sum_of.Tie as tie
 
