@@ -1,7 +1,6 @@
 //! Nanoseconds for the library's forward sum and narrowing and for a pass over a sheet, beside unverified baselines in the
-//! same run; for a pass also beside its narrowings by the library; for a narrowing also what a call takes that only reads six
-//! ends, adds four pairs of them and writes six. Then how the cost grows: of a narrowing with the length of its intervals, of
-//! a run with its sums and passes.
+//! same run; for a pass also beside its narrowings by the library. Then how the cost grows: of a narrowing with the length of
+//! its intervals, of a run with its sums and passes.
 //!
 //! Usage: bench PROGRAM, the program `narrow`. Both sides get the same input and must give the same answers. Each figure is the
 //! best of several rounds in which the sides take turns; the result buffers are not cleared between calls.
@@ -121,20 +120,10 @@ fn narrowing<W: Width>(mix: &str, make: impl Fn(&mut Words) -> [Range; 3]) {
     report(&format!("narrowing, width {}, {mix}", W::BITS), library, baseline);
 }
 
-/// What a call takes that only reads six ends, adds the four pairs of those of x and a, and writes six, beside the baseline.
-fn ends_alone<W: Width>(mix: &str, make: impl Fn(&mut Words) -> [Range; 3]) {
-    let cases = patterns::<W>(make);
-    let [ends, baseline] =
-        best(ROUNDS, [&mut || round(baseline::ends_alone, W::BITS, &cases), &mut || round(baseline::call, W::BITS, &cases)]);
-    println!("reading, four sums and writing alone, width {}, {mix}: {ends:.1} ns, baseline {baseline:.1} ns, ratio {:.2}", W::BITS, ends / baseline);
-}
-
 fn narrowings<W: Width>() {
     narrowing::<W>("wide intervals", wide::<W>);
     narrowing::<W>("a few ulps", few_ulps::<W>);
     narrowing::<W>("cancellation", cancellation::<W>);
-    ends_alone::<W>("a few ulps", few_ulps::<W>);
-    ends_alone::<W>("cancellation", cancellation::<W>);
 }
 
 /// By the length of the intervals.

@@ -3,44 +3,56 @@
 
 use crate::floats::{Narrowed, Place, Range, Width};
 
-/// The least place of the range at which the test holds, if any; the test holds from some place on. The search starts at
-/// the guess, doubles its steps until the end is between two of them, and halves the rest.
-fn least_where(range: Range, guess: Place, holds: impl Fn(Place) -> bool) -> Option<Place> {
-    let start = guess.clamp(range.low, range.high);
-    let (mut fails, mut good);
-    let mut step: Place = 1;
-    if holds(start) {
-        good = start;
-        loop {
-            if good == range.low {
-                return Some(good);
-            }
-            fails = good.saturating_sub(step).max(range.low);
-            if !holds(fails) {
-                break;
-            }
-            good = fails;
-            step = step.saturating_mul(2);
+/// From a place where the test holds, down by doubled steps: a place where it fails and one above it where it holds, or the
+/// range's low end, where it holds.
+fn gallop_down(range: Range, start: Place, holds: &impl Fn(Place) -> bool) -> Result<(Place, Place), Place> {
+    let (mut good, mut step) = (start, 1);
+    while good != range.low {
+        let next = good.saturating_sub(step).max(range.low);
+        if !holds(next) {
+            return Ok((next, good));
         }
-    } else {
-        fails = start;
-        loop {
-            if fails == range.high {
-                return None;
-            }
-            good = fails.saturating_add(step).min(range.high);
-            if holds(good) {
-                break;
-            }
-            fails = good;
-            step = step.saturating_mul(2);
-        }
+        good = next;
+        step = step.saturating_mul(2);
     }
+    Err(good)
+}
+
+/// From a place where it fails, up by doubled steps: the same two places, or none where it fails up to the range's high end.
+fn gallop_up(range: Range, start: Place, holds: &impl Fn(Place) -> bool) -> Option<(Place, Place)> {
+    let (mut fails, mut step) = (start, 1);
+    while fails != range.high {
+        let next = fails.saturating_add(step).min(range.high);
+        if holds(next) {
+            return Some((fails, next));
+        }
+        fails = next;
+        step = step.saturating_mul(2);
+    }
+    None
+}
+
+/// The least place above `fails`, where the test fails, at which it holds, as it does at `good`.
+fn halve((mut fails, mut good): (Place, Place), holds: &impl Fn(Place) -> bool) -> Place {
     while fails + 1 < good {
         let middle = (fails & good) + ((fails ^ good) >> 1);
         if holds(middle) { good = middle } else { fails = middle }
     }
-    Some(good)
+    good
+}
+
+/// The least place of the range at which the test holds, if any; the test holds from some place on. The search starts at
+/// the guess, doubles its steps until the end is between two of them, and halves the rest.
+fn least_where(range: Range, guess: Place, holds: impl Fn(Place) -> bool) -> Option<Place> {
+    let start = guess.clamp(range.low, range.high);
+    if holds(start) {
+        match gallop_down(range, start, &holds) {
+            Ok(bounds) => Some(halve(bounds, &holds)),
+            Err(low) => Some(low),
+        }
+    } else {
+        gallop_up(range, start, &holds).map(|bounds| halve(bounds, &holds))
+    }
 }
 
 /// The least x of the range with b <= x + a.
@@ -99,17 +111,12 @@ fn extent<W: Width>(x: Range, a: Range, b: Range) -> Option<Range> {
 
 /// The least b in a solution; there is one, and x and a are narrowed.
 fn least_b<W: Width>(x: Range, a: Range, b: Range) -> Place {
-    let corner = W::sum(x.low, a.low);
-    if b.low <= corner {
-        return corner;
+    let lows = W::sum(x.low, a.low);
+    if b.low <= lows {
+        return lows;
     }
-    let (mut low, mut high) = (b.low, b.high);
-    for s in [
-        least_operand::<W>(a.low, b.low, x).map(|t| W::sum(t, a.low)),
-        least_operand::<W>(x.low, b.low, a).map(|t| W::sum(x.low, t)),
-    ] {
-        high = high.min(s.unwrap_or(high));
-    }
+    let with = |c: Place, range: Range| least_operand::<W>(c, b.low, range).map_or(b.high, |t| W::sum(t, c));
+    let (mut low, mut high) = (b.low, b.high.min(with(a.low, x)).min(with(x.low, a)));
     let mut probe = high - 1;
     while low < high {
         match least_x::<W>(x, a, Range { low, high: probe }) {
