@@ -5,7 +5,7 @@ use Prim.Native.Nat.{ℕ}
 use native.Mathlib.Omega.{arith}
 use Rattle.ladder.specs.Solution as L
 use Rattle.ladder.specs.Narrowing.{Narrowing, none, ends}
-use Rattle.ladder.specs.Search.{Bounded}
+use Rattle.ladder.specs.Solution.{Bounded}
 use Rattle.ladder.proofs.Ordinals.{pattern-finite}
 use Rattle.ladder.proofs.Hull.{narrowing-hull, hull-x, hull-a, hull-b, within-bounded}
 use Rattle.arith.specs.declared.format.Format.{Format}
@@ -18,7 +18,6 @@ use Rattle.arith.specs.Intervals.{Valid, endsFinite, isOrdered, rangeOf,
 use Rattle.arith.specs.Narrows.{narrowing, written, narrowAnswer, narrowFinite, narrowIn, narrowOf}
 use Rattle.arith.proofs.Refusing.{passed}
 use Rattle.arith.proofs.Intervals.{range-ends}
-use Rattle.arith.proofs.Bounds.{bounded}
 
 -- a test that an answer with ends has passed
 passes : (ok : Bool) (n : ℕ) (rest : Narrowed) (p q r : Interval) → orRefuse Refused ok n rest ≡ Ends p q r → (ok ≡ true) × (rest ≡ Ends p q r)
@@ -83,7 +82,7 @@ answered-finite width x a b p q r w =
     let A = span (rangeOf F a) in
     let B = span (rangeOf F b) in
     let h = narrowing-hull f e X A B (w .X) (w .A) (w .B) (w .is) in
-    let nx = within-bounded (bounded (range-ends F x (rangeOf F x) refl (w .valid-x .finite))) (hull-x f e X A B (w .X) (w .A) (w .B) h) in
-    let na = within-bounded (bounded (range-ends F a (rangeOf F a) refl (w .valid-a .finite))) (hull-a f e X A B (w .X) (w .A) (w .B) h) in
-    let nb = within-bounded (bounded (range-ends F b (rangeOf F b) refl (w .valid-b .finite))) (hull-b f e X A B (w .X) (w .A) (w .B) h) in
+    let nx = within-bounded (range-ends F x (rangeOf F x) refl (w .valid-x .finite)) (hull-x f e X A B (w .X) (w .A) (w .B) h) in
+    let na = within-bounded (range-ends F a (rangeOf F a) refl (w .valid-a .finite)) (hull-a f e X A B (w .X) (w .A) (w .B) h) in
+    let nb = within-bounded (range-ends F b (rangeOf F b) refl (w .valid-b .finite)) (hull-b f e X A B (w .X) (w .A) (w .B) h) in
     (rw (w .x-is) (written-finite F (w .X) nx), rw (w .a-is) (written-finite F (w .A) na), rw (w .b-is) (written-finite F (w .B) nb))

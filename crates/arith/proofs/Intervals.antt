@@ -7,34 +7,34 @@ use Rattle.arith.specs.declared.format.Format.{Format}
 use Rattle.arith.specs.declared.range.Range.{Range}
 use Rattle.arith.specs.declared.interval.Interval.{Interval}
 use Rattle.arith.specs.Formats.{isFinite}
-use Rattle.arith.specs.Intervals.{Ends, endsFinite, rangeOf, common, reflected}
+use Rattle.arith.specs.Intervals.{Bounded, endsFinite, rangeOf, common, reflected}
 use Rattle.arith.proofs.Formats.{both}
 
 pub ends-both : (F : Format) (I : Interval) → endsFinite F I ≡ true → (isFinite F (I .low) ≡ true) × (isFinite F (I .high) ≡ true)
 unfolding endsFinite
 ends-both F I h = both (isFinite F (I .low)) (isFinite F (I .high)) h
 
-pub range-ends : (F : Format) (I : Interval) (R : Range) → R ≡ rangeOf F I → endsFinite F I ≡ true → Ends F R
+pub range-ends : (F : Format) (I : Interval) (R : Range) → R ≡ rangeOf F I → endsFinite F I ≡ true → Bounded F R
 range-ends F I R e h =
     let b = ends-both F I h in
-    subst (Ends F) (sym e)
+    subst (Bounded F) (sym e)
     (record {
       low = ordinal-finite (F .fraction) (F .exponent) (I .low) (b .0);
       high = ordinal-finite (F .fraction) (F .exponent) (I .high) (b .1);
     })
 
-pub common-ends : (F : Format) (R S T : Range) → T ≡ common R S → Ends F R → Ends F S → Ends F T
+pub common-ends : (F : Format) (R S T : Range) → T ≡ common R S → Bounded F R → Bounded F S → Bounded F T
 common-ends F R S T e r s =
-    subst (Ends F) (sym e)
+    subst (Bounded F) (sym e)
     (record {
       low = record { low = omega (arith, r .low .low, s .low .low); high = omega (arith, r .low .high, s .low .high) };
       high = record { low = omega (arith, r .high .low, s .high .low); high = omega (arith, r .high .high, s .high .high) };
     })
 
-pub reflected-ends : (F : Format) (R S : Range) → S ≡ reflected F R → Ends F R → Ends F S
+pub reflected-ends : (F : Format) (R S : Range) → S ≡ reflected F R → Bounded F R → Bounded F S
 reflected-ends F R S e r =
     let i = infinity-lt-sign (F .fraction) (F .exponent) in
-    subst (Ends F) (sym e)
+    subst (Bounded F) (sym e)
     (record {
       low = record { low = omega (arith, r .high .high); high = omega (arith, r .high .low) };
       high = record { low = omega (arith, r .low .high); high = omega (arith, r .low .low) };

@@ -10,21 +10,20 @@ use Rattle.arith.specs.declared.refusal.Refusal.{Refusal}
 use Rattle.arith.specs.declared.narrow.Ranges.the-variants as Ranges
 use Rattle.arith.specs.declared.narrow.Narrowed.the-variants as Narrowed
 use Rattle.arith.specs.Refusals.{refusal}
-use Rattle.arith.specs.Intervals.{Ends, intervalOf, span}
+use Rattle.arith.specs.Intervals.{Bounded, intervalOf, span}
 use Rattle.arith.specs.Searches.{HasX, narrowingIn}
 use Rattle.arith.specs.Narrows.{narrowing, narrowAnswer}
-use Rattle.arith.proofs.Bounds.{bounded, ends-of}
 
 module _ (F : Format) (X A B : Range) where
-  pub spans-ends : (P : Range) → Ends F X → N.Spans (HasX F X A B) (span P) → Ends F P
-  spans-ends P n s = ends-of (within-bounded (bounded n) (x-within (F .fraction) (F .exponent) (span X) (span A) (span B) (span P) s))
+  pub spans-ends : (P : Range) → Bounded F X → N.Spans (HasX F X A B) (span P) → Bounded F P
+  spans-ends P n s = (within-bounded n (x-within (F .fraction) (F .exponent) (span X) (span A) (span B) (span P) s))
 
-  pub narrowed-ends : (P Q R : Range) → narrowingIn (Ranges.Ends P Q R) ≡ narrowing F X A B → Ends F X → Ends F A → Ends F B → Ends F P × Ends F Q × Ends F R
+  pub narrowed-ends : (P Q R : Range) → narrowingIn (Ranges.Ends P Q R) ≡ narrowing F X A B → Bounded F X → Bounded F A → Bounded F B → Bounded F P × Bounded F Q × Bounded F R
   narrowed-ends P Q R e x a b =
       let h = narrowing-hull (F .fraction) (F .exponent) (span X) (span A) (span B) (span P) (span Q) (span R) (sym e) in (
-        ends-of (within-bounded (bounded x) (hull-x (F .fraction) (F .exponent) (span X) (span A) (span B) (span P) (span Q) (span R) h)),
-        ends-of (within-bounded (bounded a) (hull-a (F .fraction) (F .exponent) (span X) (span A) (span B) (span P) (span Q) (span R) h)),
-        ends-of (within-bounded (bounded b) (hull-b (F .fraction) (F .exponent) (span X) (span A) (span B) (span P) (span Q) (span R) h)),
+        (within-bounded x (hull-x (F .fraction) (F .exponent) (span X) (span A) (span B) (span P) (span Q) (span R) h)),
+        (within-bounded a (hull-a (F .fraction) (F .exponent) (span X) (span A) (span B) (span P) (span Q) (span R) h)),
+        (within-bounded b (hull-b (F .fraction) (F .exponent) (span X) (span A) (span B) (span P) (span Q) (span R) h)),
       )
 
 pub answer-none : (F : Format) (n : N.Narrowing) (r : Refusal) → r ≡ refusal 11 → narrowingIn Ranges.None ≡ n → Narrowed.Refused r ≡ narrowAnswer F n

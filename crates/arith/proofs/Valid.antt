@@ -5,7 +5,7 @@ use Prim.Native.Nat.{ℕ, suc, _<_, _≤_}
 use native.Mathlib.Omega.{arith}
 use borrow.Author.Tests.{leb-true, le-leb}
 use Rattle.ladder.specs.Solution as L
-use Rattle.ladder.specs.Search.{Bounded}
+use Rattle.ladder.specs.Solution.{Bounded}
 use Rattle.ladder.proofs.Ordinals.{pattern-finite, ordinal-pattern}
 use Rattle.arith.specs.declared.refusal.Refusal.{Refusal}
 use Rattle.arith.specs.declared.interval.Interval.{Interval}
@@ -16,7 +16,6 @@ use Rattle.arith.specs.Formats.{isKnown, formatOf}
 use Rattle.arith.specs.Intervals.{Valid, endsFinite, isOrdered, rangeOf, intervalOf, canonicalIn, canonicalOf, span}
 use Rattle.arith.specs.Narrows.{narrowing, written, narrowAnswer, narrowOf}
 use Rattle.arith.proofs.Intervals.{range-ends}
-use Rattle.arith.proofs.Bounds.{bounded}
 use Rattle.arith.proofs.Callers.{narrow-valid}
 
 -- ---- its canonical form
@@ -63,7 +62,7 @@ module _ (width : ℕ) (I : Interval) where
 -- a valid interval has finite ends, low not above high
 pub valid-bounded : (width : ℕ) (I : Interval) → Valid width I → Bounded (formatOf width .fraction) (formatOf width .exponent) (span (rangeOf (formatOf width) I)) × (rangeOf (formatOf width) I .low ≤ rangeOf (formatOf width) I .high)
 unfolding isOrdered
-valid-bounded width I v = (bounded (range-ends (formatOf width) I (rangeOf (formatOf width) I) refl (v .finite)), leb-true _ _ (v .ordered))
+valid-bounded width I v = (range-ends (formatOf width) I (rangeOf (formatOf width) I) refl (v .finite), leb-true _ _ (v .ordered))
 
 module _ (width : ℕ) (I : L.Interval) (b : Bounded (formatOf width .fraction) (formatOf width .exponent) I) where
   -- the patterns of finite ends lead back to them

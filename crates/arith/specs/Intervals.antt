@@ -13,7 +13,7 @@ use Rattle.arith.specs.declared.interval.Cut.the-variants as Cut
 use Rattle.arith.specs.declared.interval.Image.{Image}
 use Rattle.arith.specs.declared.interval.Image.the-variants as Image
 use Rattle.arith.specs.Refusals.{orRefuse}
-use Rattle.arith.specs.Formats.{isKnown, formatOf, isFinite, ordinal, pattern, Finite, sum, mirrored}
+use Rattle.arith.specs.Formats.{isKnown, formatOf, isFinite, ordinal, pattern, sum, mirrored}
 use Rattle.arith.specs.Sums.{isFiniteOrdinal}
 
 -- refusal 2 for low, then high
@@ -32,10 +32,9 @@ intervalOf F R = record { low = pattern F (R .low); high = pattern F (R .high) }
 abbrev pub span : Range → L.Interval
 span R = record { low = R .low; high = R .high }
 
--- both ends are ordinals of finite floats
-pub record Ends (F : Format) (R : Range) : Type 0 where
-  pub low : Finite F (R .low)
-  pub high : Finite F (R .high)
+-- both ends are finite
+abbrev pub Bounded : Format → Range → Type 0
+Bounded F R = L.Bounded (F .fraction) (F .exponent) (span R)
 
 -- refusal 3 is for low above high
 unfoldable pub isOrdered : Range → Bool

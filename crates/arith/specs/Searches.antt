@@ -13,7 +13,7 @@ use Rattle.arith.specs.declared.corner.Corner.{Corner}
 use Rattle.arith.specs.declared.corner.Corner.the-variants as Corner
 use Rattle.arith.specs.declared.narrow.Ranges.{Ranges}
 use Rattle.arith.specs.declared.narrow.Ranges.the-variants as Ranges
-use Rattle.arith.specs.Intervals.{span, Ends}
+use Rattle.arith.specs.Intervals.{span, Bounded}
 
 -- ---- the ends of what has a property
 -- the answer is the least, or that there is none
@@ -71,8 +71,8 @@ Fine F X A B = S.Fine (F .fraction) (F .exponent) (span X) (span A) (span B)
 
 -- other operands, finite too, that make the same triples, with nothing too coarse for B
 pub record SameTriples (F : Format) (X A B : Range) (O : Operands) : Type 0 where
-  pub x-ends : Ends F (O .x)
-  pub a-ends : Ends F (O .a)
+  pub x-ends : Bounded F (O .x)
+  pub a-ends : Bounded F (O .a)
   -- no triple is lost
   pub kept : (x a b : ℕ) → Triple F X A B x a b → Triple F (O .x) (O .a) B x a b
   -- none is added

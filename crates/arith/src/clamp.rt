@@ -4,7 +4,7 @@ ghost use Prim.Native.Nat.{_-_, _/_, _^_, _≤_, _<_};
 ghost use Rattle.ladder.specs.Search.{NoMultiple, SomeMultiple, raised, lowered};
 ghost use Rattle.arith.specs.Formats.{Sound};
 ghost use Rattle.arith.specs.Exacts.{Fraction};
-ghost use Rattle.arith.specs.Intervals.{Ends, span};
+ghost use Rattle.arith.specs.Intervals.{Bounded, span};
 use crate::format::Format;
 use crate::range::Range;
 use crate::range::reflect;
@@ -54,7 +54,7 @@ pub(crate) fn raise(format: Format, k: u64, r: Range) -> Range
 
 // The range without the values above zero of that size.
 pub(crate) fn lower(format: Format, k: u64, r: Range) -> Range
-    requires { ⌜ (Sound format) × (Ends format r) ⌝ }
+    requires { ⌜ (Sound format) × (Bounded format r) ⌝ }
     ensures { λ s. ⌜ span s ≡ lowered (format .fraction) (format .exponent) k (span r) ⌝ }
 {
     reflect(format, raise(format, k, reflect(format, r)))

@@ -1,7 +1,7 @@
 // The corner of the triples: the least x and the greatest a in a triple stand in one together. The walk to it begins at x's low and a's high end; x goes up where the sum falls short of b, and a comes down where it is past b. There is no loop: the clamp leaves two turns at most.
 ghost use Prim.Native.Nat.{_≤_, _<_};
 ghost use Rattle.arith.specs.Formats.{Sound, sum};
-ghost use Rattle.arith.specs.Intervals.{Ends};
+ghost use Rattle.arith.specs.Intervals.{Bounded};
 ghost use Rattle.arith.specs.Searches.{CornerOf, Fine, SameTriples};
 use crate::clamp::granularity;
 use crate::clamp::lower;
@@ -27,7 +27,7 @@ pub(crate) enum Corner {
 
 // The corner where the sum of x's low and a's high end falls short of b: x goes up, and if that is past b, a comes down.
 fn climb(format: Format, x: Range, a: Range, b: Range) -> Corner
-    requires { ⌜ (Sound format) × (Ends format x) × (Ends format a) × (Ends format b) × (x .low ≤ x .high) × (a .low ≤ a .high) × (Fine format x a b) × (sum format (x .low) (a .high) < b .low) ⌝ }
+    requires { ⌜ (Sound format) × (Bounded format x) × (Bounded format a) × (Bounded format b) × (x .low ≤ x .high) × (a .low ≤ a .high) × (Fine format x a b) × (sum format (x .low) (a .high) < b .low) ⌝ }
     ensures { λ r. ⌜ CornerOf format x a b r ⌝ }
 {
     let Found::At(p) = least_operand(format, a.high, b.low, x) else {
@@ -53,7 +53,7 @@ fn climb(format: Format, x: Range, a: Range, b: Range) -> Corner
 
 // Where it is past b: a comes down, and if that falls short of b, x goes up.
 fn descend(format: Format, x: Range, a: Range, b: Range) -> Corner
-    requires { ⌜ (Sound format) × (Ends format x) × (Ends format a) × (Ends format b) × (x .low ≤ x .high) × (a .low ≤ a .high) × (Fine format x a b) × (b .high < sum format (x .low) (a .high)) ⌝ }
+    requires { ⌜ (Sound format) × (Bounded format x) × (Bounded format a) × (Bounded format b) × (x .low ≤ x .high) × (a .low ≤ a .high) × (Fine format x a b) × (b .high < sum format (x .low) (a .high)) ⌝ }
     ensures { λ r. ⌜ CornerOf format x a b r ⌝ }
 {
     let Found::At(q) = greatest_operand(format, x.low, b.high, a) else {
@@ -79,7 +79,7 @@ fn descend(format: Format, x: Range, a: Range, b: Range) -> Corner
 
 // The corner of operands with nothing too coarse for b: two turns are enough.
 fn walk(format: Format, x: Range, a: Range, b: Range) -> Corner
-    requires { ⌜ (Sound format) × (Ends format x) × (Ends format a) × (Ends format b) × (Fine format x a b) ⌝ }
+    requires { ⌜ (Sound format) × (Bounded format x) × (Bounded format a) × (Bounded format b) × (Fine format x a b) ⌝ }
     ensures { λ r. ⌜ CornerOf format x a b r ⌝ }
 {
     if x.high < x.low {
@@ -104,7 +104,7 @@ fn walk(format: Format, x: Range, a: Range, b: Range) -> Corner
 
 // The operands without what is too coarse for b, where zero is not in b: no triple is lost.
 fn clamp(format: Format, x: Range, a: Range, b: Range) -> Operands
-    requires { ⌜ (Sound format) × (Ends format x) × (Ends format a) × (Ends format b) × (b .low ≤ b .high) ⌝ }
+    requires { ⌜ (Sound format) × (Bounded format x) × (Bounded format a) × (Bounded format b) × (b .low ≤ b .high) ⌝ }
     ensures { λ r. ⌜ SameTriples format x a b r ⌝ }
 {
     let zero = format.sign;
@@ -128,7 +128,7 @@ fn clamp(format: Format, x: Range, a: Range, b: Range) -> Operands
 
 // The corner by the clamp and the walk.
 pub(crate) fn clamped_corner(format: Format, x: Range, a: Range, b: Range) -> Corner
-    requires { ⌜ (Sound format) × (Ends format x) × (Ends format a) × (Ends format b) × (b .low ≤ b .high) ⌝ }
+    requires { ⌜ (Sound format) × (Bounded format x) × (Bounded format a) × (Bounded format b) × (b .low ≤ b .high) ⌝ }
     ensures { λ r. ⌜ CornerOf format x a b r ⌝ }
 {
     let o = clamp(format, x, a, b);
@@ -137,7 +137,7 @@ pub(crate) fn clamped_corner(format: Format, x: Range, a: Range, b: Range) -> Co
 
 // The corner: x's low and a's high end where these make a triple, else by the walk.
 pub(crate) fn corner_of(format: Format, x: Range, a: Range, b: Range) -> Corner
-    requires { ⌜ (Sound format) × (Ends format x) × (Ends format a) × (Ends format b) × (x .low ≤ x .high) × (a .low ≤ a .high) × (b .low ≤ b .high) ⌝ }
+    requires { ⌜ (Sound format) × (Bounded format x) × (Bounded format a) × (Bounded format b) × (x .low ≤ x .high) × (a .low ≤ a .high) × (b .low ≤ b .high) ⌝ }
     ensures { λ r. ⌜ CornerOf format x a b r ⌝ }
 {
     let s = add_ordinals(format, x.low, a.high);

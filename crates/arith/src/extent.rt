@@ -3,7 +3,7 @@ ghost use mathlib.Core.Path.{_≡_};
 ghost use mathlib.Core.Logic.{_⊎_};
 ghost use Prim.Native.Nat.{_≤_};
 ghost use Rattle.arith.specs.Formats.{Sound, sum};
-ghost use Rattle.arith.specs.Intervals.{Ends};
+ghost use Rattle.arith.specs.Intervals.{Bounded};
 ghost use Rattle.ladder.specs.Search.{Least};
 ghost use Rattle.arith.specs.Searches.{Spans, Triple, HasB, AtMost, AtMostBefore};
 use crate::corner::Corner;
@@ -22,7 +22,7 @@ use crate::range::reflect;
 
 // A b that stands in a triple: the one known, or the least sum with c that is not below b, if that is less.
 fn lesser(format: Format, c: u64, x: Range, a: Range, b: Range, known: u64) -> u64
-    requires { ⌜ (Sound format) × (Ends format x) × (Ends format a) × (Ends format b) × (a .low ≤ c) × (c ≤ a .high) × (HasB format x a b known) ⌝ }
+    requires { ⌜ (Sound format) × (Bounded format x) × (Bounded format a) × (Bounded format b) × (a .low ≤ c) × (c ≤ a .high) × (HasB format x a b known) ⌝ }
     ensures { λ r. ⌜ (HasB format x a b r) × (r ≤ known) × (AtMost format c (b .low) x r) ⌝ }
 {
     match least_operand(format, c, b.low, x) {
@@ -33,7 +33,7 @@ fn lesser(format: Format, c: u64, x: Range, a: Range, b: Range, known: u64) -> u
 
 // The same with the a before the least that reaches b with x's low end.
 fn lesser_before(format: Format, x: Range, a: Range, b: Range, known: u64) -> u64
-    requires { ⌜ (Sound format) × (Ends format x) × (Ends format a) × (Ends format b) × (HasB format x a b known) ⌝ }
+    requires { ⌜ (Sound format) × (Bounded format x) × (Bounded format a) × (Bounded format b) × (HasB format x a b known) ⌝ }
     ensures { λ r. ⌜ (HasB format x a b r) × (r ≤ known) × (AtMostBefore format (b .low) x a r) ⌝ }
 {
     let Found::At(z) = least_operand(format, x.low, b.low, a) else {
@@ -47,7 +47,7 @@ fn lesser_before(format: Format, x: Range, a: Range, b: Range, known: u64) -> u6
 
 // The least b in a triple, where the one known is no more than the least sums with the low ends: b's low end where that stands in a triple, else the least of the sums that decide.
 fn least_above(format: Format, x: Range, a: Range, b: Range, known: u64) -> u64
-    requires { ⌜ (Sound format) × (Ends format x) × (Ends format a) × (Ends format b) × (b .low ≤ sum format (x .low) (a .high)) × (b .low ≤ sum format (x .high) (a .low)) × (HasB format x a b known) × (AtMost format (a .low) (b .low) x known) × (AtMost format (x .low) (b .low) a known) ⌝ }
+    requires { ⌜ (Sound format) × (Bounded format x) × (Bounded format a) × (Bounded format b) × (b .low ≤ sum format (x .low) (a .high)) × (b .low ≤ sum format (x .high) (a .low)) × (HasB format x a b known) × (AtMost format (a .low) (b .low) x known) × (AtMost format (x .low) (b .low) a known) ⌝ }
     ensures { λ r. ⌜ Least (HasB format x a b) r ⌝ }
 {
     let low = Range {
@@ -66,7 +66,7 @@ fn least_above(format: Format, x: Range, a: Range, b: Range, known: u64) -> u64
 
 // The least b in a triple. The least sum with x's low end mostly is it, as one question tells.
 fn least_with(format: Format, x: Range, a: Range, b: Range, known: u64) -> u64
-    requires { ⌜ (Sound format) × (Ends format x) × (Ends format a) × (Ends format b) × (b .low ≤ sum format (x .low) (a .high)) × (b .low ≤ sum format (x .high) (a .low)) × (HasB format x a b known) ⌝ }
+    requires { ⌜ (Sound format) × (Bounded format x) × (Bounded format a) × (Bounded format b) × (b .low ≤ sum format (x .low) (a .high)) × (b .low ≤ sum format (x .high) (a .low)) × (HasB format x a b known) ⌝ }
     ensures { λ r. ⌜ Least (HasB format x a b) r ⌝ }
 {
     let s = lesser(format, x.low, a, x, b, known);
@@ -96,7 +96,7 @@ fn farther_first(format: Format, x: Range, a: Range) -> Operands
 
 // The least b in a triple: the sum of the low ends, unless that is below b.
 fn least_b(format: Format, x: Range, a: Range, b: Range, known: u64) -> u64
-    requires { ⌜ (Sound format) × (Ends format x) × (Ends format a) × (Ends format b) × (b .low ≤ sum format (x .low) (a .high)) × (b .low ≤ sum format (x .high) (a .low)) × (HasB format x a b known) ⌝ }
+    requires { ⌜ (Sound format) × (Bounded format x) × (Bounded format a) × (Bounded format b) × (b .low ≤ sum format (x .low) (a .high)) × (b .low ≤ sum format (x .high) (a .low)) × (HasB format x a b known) ⌝ }
     ensures { λ r. ⌜ Least (HasB format x a b) r ⌝ }
 {
     let least = add_ordinals(format, x.low, a.low);
@@ -112,7 +112,7 @@ fn least_b(format: Format, x: Range, a: Range, b: Range, known: u64) -> u64
 
 // The b in a triple, where the ends crosswise make triples, with s and with t.
 pub(crate) fn extent_b(format: Format, x: Range, a: Range, b: Range, s: u64, t: u64) -> Range
-    requires { ⌜ (Sound format) × (Ends format x) × (Ends format a) × (Ends format b) × (Triple format x a b (x .low) (a .high) s) × (Triple format x a b (x .high) (a .low) t) ⌝ }
+    requires { ⌜ (Sound format) × (Bounded format x) × (Bounded format a) × (Bounded format b) × (Triple format x a b (x .low) (a .high) s) × (Triple format x a b (x .high) (a .low) t) ⌝ }
     ensures { λ r. ⌜ Spans (HasB format x a b) r ⌝ }
 {
     let low = least_b(format, x, a, b, min(s, t));

@@ -3,7 +3,7 @@ ghost use mathlib.Core.Path.{_≡_};
 ghost use mathlib.Core.Bool.{true};
 ghost use Rattle.arith.specs.Formats.{Sound, Finite};
 ghost use Rattle.arith.specs.Sums.{isFiniteOrdinal};
-ghost use Rattle.arith.specs.Intervals.{Ends, endsFinite, rangeOf, intervalOf, sharedIn, movedIn, translated, canonicalIn, cutIn, shiftIn, mirrorIn, canonicalOf, cutOf, shiftOf, mirrorOf};
+ghost use Rattle.arith.specs.Intervals.{Bounded, endsFinite, rangeOf, intervalOf, sharedIn, movedIn, translated, canonicalIn, cutIn, shiftIn, mirrorIn, canonicalOf, cutOf, shiftOf, mirrorOf};
 ghost use Rattle.arith.specs.Answers.{cutTold, imageTold};
 ghost use Rattle.arith.specs.Replies.{replyAfter, ownTests, cutTests, shiftTests, canonicalValues, cutValues, shiftValues, mirrorValues};
 use crate::format::Format;
@@ -63,7 +63,7 @@ pub(crate) fn range_of(format: Format, i: Interval) -> Range
 
 // The patterns of the ends.
 pub(crate) fn interval_of(format: Format, r: Range) -> Interval
-    requires { ⌜ (Sound format) × (Ends format r) ⌝ }
+    requires { ⌜ (Sound format) × (Bounded format r) ⌝ }
     ensures { λ i. ⌜ i ≡ intervalOf format r ⌝ }
 {
     Interval {
@@ -89,7 +89,7 @@ fn canonical_in(format: Format, i: Interval) -> Image
 
 // The interval of a shared range, or that nothing is shared.
 fn shared_in(format: Format, r: Range) -> Cut
-    requires { ⌜ (Sound format) × (Ends format r) ⌝ }
+    requires { ⌜ (Sound format) × (Bounded format r) ⌝ }
     ensures { λ c. ⌜ c ≡ sharedIn format r ⌝ }
 {
     if !ordered(r) {
@@ -147,7 +147,7 @@ fn moved_in(format: Format, r: Range) -> Image
 
 // Both ends moved by c.
 fn translate(format: Format, r: Range, c: u64) -> Range
-    requires { ⌜ (Sound format) × (Ends format r) × (Finite format c) ⌝ }
+    requires { ⌜ (Sound format) × (Bounded format r) × (Finite format c) ⌝ }
     ensures { λ t. ⌜ t ≡ translated format r c ⌝ }
 {
     Range {

@@ -2,7 +2,7 @@
 ghost use mathlib.Core.Path.{_≡_};
 ghost use Prim.Native.Nat.{_≤_};
 ghost use Rattle.arith.specs.Formats.{Sound};
-ghost use Rattle.arith.specs.Intervals.{Ends};
+ghost use Rattle.arith.specs.Intervals.{Bounded};
 ghost use Rattle.arith.specs.Searches.{narrowingIn};
 ghost use Rattle.arith.specs.Narrows.{narrowing, narrowAnswer, narrowFinite, narrowIn, narrowOf};
 ghost use Rattle.arith.specs.Answers.{narrowedTold};
@@ -40,7 +40,7 @@ pub(crate) enum Ranges {
 
 // The narrowing of ranges: two corners are that of x and a, and b's is over what these are narrowed to.
 fn narrow_ranges(format: Format, x: Range, a: Range, b: Range) -> Ranges
-    requires { ⌜ (Sound format) × (Ends format x) × (Ends format a) × (Ends format b) × (x .low ≤ x .high) × (a .low ≤ a .high) × (b .low ≤ b .high) ⌝ }
+    requires { ⌜ (Sound format) × (Bounded format x) × (Bounded format a) × (Bounded format b) × (x .low ≤ x .high) × (a .low ≤ a .high) × (b .low ≤ b .high) ⌝ }
     ensures { λ r. ⌜ narrowingIn r ≡ narrowing format x a b ⌝ }
 {
     let Corner::At {
@@ -76,7 +76,7 @@ fn narrow_ranges(format: Format, x: Range, a: Range, b: Range) -> Ranges
 
 // The answer for three ranges that hold something.
 fn narrow_ordered(format: Format, x: Range, a: Range, b: Range) -> Narrowed
-    requires { ⌜ (Sound format) × (Ends format x) × (Ends format a) × (Ends format b) × (x .low ≤ x .high) × (a .low ≤ a .high) × (b .low ≤ b .high) ⌝ }
+    requires { ⌜ (Sound format) × (Bounded format x) × (Bounded format a) × (Bounded format b) × (x .low ≤ x .high) × (a .low ≤ a .high) × (b .low ≤ b .high) ⌝ }
     ensures { λ r. ⌜ r ≡ narrowAnswer format (narrowing format x a b) ⌝ }
 {
     match narrow_ranges(format, x, a, b) {
@@ -91,7 +91,7 @@ fn narrow_ordered(format: Format, x: Range, a: Range, b: Range) -> Narrowed
 
 // The answer for three ranges of finite ordinals; refusals 3 for x, a, b, then 11.
 fn narrow_finite(format: Format, x: Range, a: Range, b: Range) -> Narrowed
-    requires { ⌜ (Sound format) × (Ends format x) × (Ends format a) × (Ends format b) ⌝ }
+    requires { ⌜ (Sound format) × (Bounded format x) × (Bounded format a) × (Bounded format b) ⌝ }
     ensures { λ r. ⌜ r ≡ narrowFinite format x a b ⌝ }
 {
     if !ordered(x) {

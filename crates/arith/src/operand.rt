@@ -1,6 +1,6 @@
 // The least operand with a sum of at least b, and its mirror image, the greatest with a sum of at most b.
 ghost use Rattle.arith.specs.Formats.{Sound, Finite};
-ghost use Rattle.arith.specs.Intervals.{Ends};
+ghost use Rattle.arith.specs.Intervals.{Bounded};
 ghost use Rattle.arith.specs.Searches.{LeastOf, GreatestOf, Attains, Stays};
 use crate::format::Format;
 use crate::range::Range;
@@ -16,7 +16,7 @@ pub(crate) enum Found {
 
 // The least x of the range with a sum of at least b.
 pub(crate) fn least_operand(format: Format, a: u64, b: u64, r: Range) -> Found
-    requires { ⌜ (Sound format) × (Finite format a) × (Finite format b) × (Ends format r) ⌝ }
+    requires { ⌜ (Sound format) × (Finite format a) × (Finite format b) × (Bounded format r) ⌝ }
     ensures { λ x. ⌜ LeastOf (Attains format a b r) x ⌝ }
 {
     if r.high < r.low {
@@ -34,7 +34,7 @@ pub(crate) fn least_operand(format: Format, a: u64, b: u64, r: Range) -> Found
 
 // The greatest x of the range with a sum of at most b.
 pub(crate) fn greatest_operand(format: Format, a: u64, b: u64, r: Range) -> Found
-    requires { ⌜ (Sound format) × (Finite format a) × (Finite format b) × (Ends format r) ⌝ }
+    requires { ⌜ (Sound format) × (Finite format a) × (Finite format b) × (Bounded format r) ⌝ }
     ensures { λ x. ⌜ GreatestOf (Stays format a b r) x ⌝ }
 {
     match least_operand(

@@ -2,7 +2,7 @@
 ghost use mathlib.Core.Path.{_≡_};
 ghost use Prim.Native.Nat.{min, max};
 ghost use Rattle.arith.specs.Formats.{Sound, Finite, mirrored};
-ghost use Rattle.arith.specs.Intervals.{Ends, isOrdered, common, reflected};
+ghost use Rattle.arith.specs.Intervals.{Bounded, isOrdered, common, reflected};
 use crate::format::Format;
 
 pub(crate) struct Range {
@@ -54,7 +54,7 @@ pub(crate) fn mirror_of(format: Format, r: u64) -> u64
 
 // From the mirrored high end to the mirrored low end.
 pub(crate) fn reflect(format: Format, r: Range) -> Range
-    requires { ⌜ (Sound format) × (Ends format r) ⌝ }
+    requires { ⌜ (Sound format) × (Bounded format r) ⌝ }
     ensures { λ m. ⌜ m ≡ reflected format r ⌝ }
 {
     Range {

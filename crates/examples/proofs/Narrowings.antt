@@ -10,7 +10,7 @@ use Rattle.ladder.specs.Rounding.{excess, round}
 use Rattle.ladder.specs.Ordinal.{sign, infinity, ordinal, pattern}
 use Rattle.ladder.specs.Sum.{rounded, sum}
 use Rattle.ladder.specs.Solution.{Interval, In, Solution}
-use Rattle.ladder.specs.Narrowing.{none, Hull}
+use Rattle.ladder.specs.Narrowing.{Hull}
 use Rattle.ladder.proofs.Cases.{le-or-lt}
 use Rattle.ladder.proofs.Hull.{hull-narrowing, none-narrowing}
 use Rattle.ladder.proofs.Solutions.{swap}

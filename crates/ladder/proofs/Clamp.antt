@@ -9,8 +9,8 @@ use lib.Pow.{pow-pos}
 use Rattle.ladder.specs.Magnitude.{magnitude}
 use Rattle.ladder.specs.Ordinal.{sign, infinity, above, below, mirrored, Finite}
 use Rattle.ladder.specs.Sum.{gains, losses, sum}
-use Rattle.ladder.specs.Solution.{Interval, In, Solution}
-use Rattle.ladder.specs.Search.{Bounded, NoMultiple, SomeMultiple, Fine, positive, negative, raised, lowered, reflection}
+use Rattle.ladder.specs.Solution.{Interval, In, Solution, Bounded}
+use Rattle.ladder.specs.Search.{NoMultiple, SomeMultiple, Fine, positive, negative, raised, lowered, reflection}
 use Rattle.ladder.proofs.Cases.{le-or-lt}
 use Rattle.ladder.proofs.Magnitude.{magnitude-le}
 use Rattle.ladder.proofs.Multiples.{round-dvd, magnitude-dvd}

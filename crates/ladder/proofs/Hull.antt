@@ -2,9 +2,8 @@
 use mathlib.Core.Path.{_≡_, sym, subst}
 use Prim.Native.Nat.{ℕ, _≤_}
 use native.Mathlib.Omega.{arith}
-use Rattle.ladder.specs.Solution.{Interval, In, Solution}
+use Rattle.ladder.specs.Solution.{Interval, In, Solution, Bounded}
 use Rattle.ladder.specs.Narrowing.{none, ends, narrowing, HasX, HasA, HasB, Spans, Hull, IsNarrowing}
-use Rattle.ladder.specs.Search.{Bounded}
 use Rattle.ladder.proofs.Narrowing.{narrowing-is, narrowing-unique}
 use Rattle.ladder.proofs.Solutions.{Kept, kept-x, kept-a, kept-b}
 

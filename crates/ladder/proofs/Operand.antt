@@ -4,8 +4,8 @@ use Prim.Native.Nat.{ℕ, _*_, _≤_}
 use native.Mathlib.Omega.{arith}
 use Rattle.ladder.specs.Ordinal.{sign, mirrored, Finite}
 use Rattle.ladder.specs.Sum.{sum}
-use Rattle.ladder.specs.Solution.{Interval}
-use Rattle.ladder.specs.Search.{Never, Least, Greatest, Attains, Stays, Bounded, reflection}
+use Rattle.ladder.specs.Solution.{Interval, Bounded}
+use Rattle.ladder.specs.Search.{Never, Least, Greatest, Attains, Stays, reflection}
 use Rattle.ladder.proofs.Sum.{sum-mirror}
 use Rattle.ladder.proofs.Extremes.{mirror-never, mirror-greatest}
 use Rattle.ladder.proofs.Solutions.{in-reflection, in-reflected, finite-in, mirror-bounded}

@@ -9,8 +9,8 @@ use lib.Pow.{pow-pos}
 use Rattle.ladder.specs.Magnitude.{magnitude, shift, significand}
 use Rattle.ladder.specs.Ordinal.{sign, infinity, above, below, mirrored}
 use Rattle.ladder.specs.Sum.{rounded, gains, losses, sum}
-use Rattle.ladder.specs.Solution.{Interval}
-use Rattle.ladder.specs.Search.{Bounded, reflection, SomeMultiple, Skips, Fine, zero-in, positive, negative}
+use Rattle.ladder.specs.Solution.{Interval, Bounded}
+use Rattle.ladder.specs.Search.{reflection, SomeMultiple, Skips, Fine, zero-in, positive, negative}
 use Rattle.ladder.proofs.Cases.{le-or-lt}
 use Rattle.ladder.proofs.Magnitude.{magnitude-parts, magnitude-suc, lt-of-magnitude, shift-le}
 use Rattle.ladder.proofs.Multiples.{pow-dvd, times-dvd}

@@ -3,9 +3,9 @@ use mathlib.Core.Path.{ap, _∙_}
 use Prim.Native.Nat.{ℕ, _*_, _≤_}
 use native.Mathlib.Omega.{arith}
 use Rattle.ladder.specs.Ordinal.{sign, mirrored, Finite}
-use Rattle.ladder.specs.Solution.{Interval, In, Solution}
+use Rattle.ladder.specs.Solution.{Interval, In, Solution, Bounded}
 use Rattle.ladder.specs.Narrowing.{HasX, HasA, HasB, Spans}
-use Rattle.ladder.specs.Search.{Never, Least, Greatest, Corner, Bounded, reflection}
+use Rattle.ladder.specs.Search.{Never, Least, Greatest, Corner, reflection}
 use Rattle.ladder.proofs.Ordinals.{mirror-finite, finite-twice}
 use Rattle.ladder.proofs.Sum.{sum-comm, sum-mirror}
 use Rattle.ladder.proofs.Extremes.{mirror-greatest}

@@ -8,9 +8,9 @@ use native.Mathlib.Omega.{arith}
 use Rattle.ladder.specs.Magnitude.{magnitude, shift}
 use Rattle.ladder.specs.Ordinal.{sign, above, below, mirrored, Finite}
 use Rattle.ladder.specs.Sum.{gains, losses, sum}
-use Rattle.ladder.specs.Solution.{Interval, In}
+use Rattle.ladder.specs.Solution.{Interval, In, Bounded}
 use Rattle.ladder.specs.Narrowing.{HasB}
-use Rattle.ladder.specs.Search.{Least, Attains, AtMost, none, least, Bounded, reflection, Skips}
+use Rattle.ladder.specs.Search.{Least, Attains, AtMost, none, least, reflection, Skips}
 use Rattle.ladder.proofs.Cases.{le-or-lt, trichotomy}
 use Rattle.ladder.proofs.Magnitude.{magnitude-suc, lt-of-magnitude, shift-le}
 use Rattle.ladder.proofs.Multiples.{pow-dvd}

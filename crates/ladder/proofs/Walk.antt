@@ -5,9 +5,9 @@ use Prim.Native.Nat.{ℕ, _+_, _-_, _≤_, _<_}
 use native.Mathlib.Nat.{le-refl}
 use native.Mathlib.Omega.{arith}
 use Rattle.ladder.specs.Sum.{sum}
-use Rattle.ladder.specs.Solution.{Interval}
+use Rattle.ladder.specs.Solution.{Interval, Bounded}
 use Rattle.ladder.specs.Narrowing.{HasX}
-use Rattle.ladder.specs.Search.{Never, Least, Greatest, Attains, Stays, Frontier, Corner, Bounded, Skips, Fine}
+use Rattle.ladder.specs.Search.{Never, Least, Greatest, Attains, Stays, Frontier, Corner, Skips, Fine}
 use Rattle.ladder.proofs.Cases.{le-or-lt}
 use Rattle.ladder.proofs.Sum.{sum-comm}
 use Rattle.ladder.proofs.Frontier.{frontier-start, frontier-solved, raise-next, raise-end, lower-next, lower-end}

@@ -3,7 +3,7 @@
 use mathlib.Core.Logic.{_↔_}
 use Prim.Native.Nat.{ℕ, _+_, _-_, _*_, _^_, _≤_, _<_, _∣_, max}
 use Rattle.ladder.specs.Magnitude.{magnitude}
-use Rattle.ladder.specs.Ordinal.{sign, mirrored, Finite, above, below}
+use Rattle.ladder.specs.Ordinal.{sign, mirrored, above, below}
 use Rattle.ladder.specs.Sum.{sum}
 use Rattle.ladder.specs.Solution.{Interval, In, Solution}
 use Rattle.ladder.specs.Narrowing.{HasX, HasA}
@@ -70,11 +70,6 @@ pub record Skips (f e : ℕ) (B : Interval) (z y : ℕ) : Type 0 where
   pub past : B .high < sum f e z (y + 1)
 
 -- ---- images of an interval
--- both ends are finite
-pub record Bounded (f e : ℕ) (I : Interval) : Type 0 where
-  pub low : Finite f e (I .low)
-  pub high : Finite f e (I .high)
-
 -- from -high to -low
 abbrev pub reflection : ℕ → ℕ → Interval → Interval
 reflection f e I = record { low = mirrored f e (I .high); high = mirrored f e (I .low) }

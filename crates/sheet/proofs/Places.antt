@@ -7,7 +7,7 @@ use native.Mathlib.Omega.{arith}
 use lib.ListN.{length, getD, set, replicate, length-map, List·getD-append}
 use lib.Seq.{take-at, set-append-left, ext-getD}
 use Rattle.ladder.specs.Solution as S
-use Rattle.ladder.specs.Search.{Bounded}
+use Rattle.ladder.specs.Solution.{Bounded}
 use Rattle.arith.specs.declared.interval.Interval.{Interval}
 use Rattle.arith.proofs.Valid.{written-span}
 use Rattle.sheet.specs.Cells.{fractionOf, exponentOf, ordinalsOf, patternsOf, boxOf, cellsOf}

@@ -6,7 +6,6 @@ use Rattle.ladder.proofs.Solutions.{mirror-bounded}
 use Rattle.ladder.proofs.Clamp.{raised-bounded}
 use Rattle.arith.specs.declared.range.Range.{Range}
 use Rattle.arith.specs.Intervals.{span}
-use Rattle.arith.proofs.Bounds.{bounded, ends-of}
 use Rattle.arith.proofs.clamp.lower.Statement.{statement}
 use Rattle.arith.proofs.clamp.lower.Tie as tie
 
@@ -20,8 +19,8 @@ reflect-requires-2 : tie.Need-reflect-requires-2
 reflect-requires-2 c κs =
     let z = c .before .before in
     let F = z .args .format in
-    let b = raised-bounded (F .fraction) (F .exponent) (z .pre .0 .some) (z .args .k) (span (c .before .reflect .result)) (rw (c .before .reflect .ensures) (mirror-bounded (F .fraction) (F .exponent) (span (z .args .r)) (bounded (z .pre .1)))) in
-    (z .pre .0, ends-of (rw (c .raise .ensures) b))
+    let b = raised-bounded (F .fraction) (F .exponent) (z .pre .0 .some) (z .args .k) (span (c .before .reflect .result)) (rw (c .before .reflect .ensures) (mirror-bounded (F .fraction) (F .exponent) (span (z .args .r)) (z .pre .1))) in
+    (z .pre .0, (rw (c .raise .ensures) b))
 
 returns : tie.Need-returns
 returns c =

@@ -8,7 +8,6 @@ use Rattle.arith.specs.declared.operand.Found.the-variants.{At, Absent}
 use Rattle.arith.specs.Formats.{Finite}
 use Rattle.arith.specs.Searches.{Attains, Stays, LeastOf, GreatestOf}
 use Rattle.arith.specs.Intervals.{span}
-use Rattle.arith.proofs.Bounds.{bounded}
 use Rattle.arith.proofs.corner.climb.Statement.{statement}
 use Rattle.arith.proofs.corner.climb.Tie as tie
 
@@ -20,7 +19,7 @@ up-finite : (c : tie.After-known-told) → Finite (c .before .before .before .be
 up-finite c =
     let z = c .before .before .before .before in
     let F = z .args .format in
-    finite-in (F .fraction) (F .exponent) (span (z .args .x)) (bounded (z .pre .1)) _ (up c .holds .inside)
+    finite-in (F .fraction) (F .exponent) (span (z .args .x)) (z .pre .1) _ (up c .holds .inside)
 
 down : (c : tie.After-known-told2) → let z = c .before .before .before .before .before .before .before .before .before .before .before .args in GreatestOf (Stays (z .format) (c .before .before .before .before .before .before .before .before .p .given .0 .0) (z .b .high) (z .a)) (At (c .before .q .given .0 .0))
 down c = rw (c .before .q .given .1) at (c .before .before .before .greatest-operand .ensures)
@@ -71,14 +70,14 @@ add-ordinals-requires-2 : tie.Need-add-ordinals-requires-2
 add-ordinals-requires-2 c κs =
     let z = c .before .before .before .before .before .before .before .before .before .before .before in
     let F = z .args .format in
-    (z .pre .0, up-finite (c .before .before .before .before .before .before .before), finite-in (F .fraction) (F .exponent) (span (z .args .a)) (bounded (z .pre .2)) _ (down c .holds .inside))
+    (z .pre .0, up-finite (c .before .before .before .before .before .before .before), finite-in (F .fraction) (F .exponent) (span (z .args .a)) (z .pre .2) _ (down c .holds .inside))
 
 returns-4 : tie.Need-returns-4
 returns-4 c =
     let z = c .before .before .before .before .before .before .before .before .before .before .before .before in
     let F = z .args .format in
     let s = c .before .before .before .before .before .before .before .add-ordinals in
-    rw (c .add-ordinals2 .ensures) (climbs (F .fraction) (F .exponent) (z .pre .0 .some) (span (z .args .x)) (span (z .args .a)) (span (z .args .b)) (z .pre .4) (z .pre .5) (bounded (z .pre .1)) (bounded (z .pre .2)) (bounded (z .pre .3)) (z .pre .6) (z .pre .7) _ (up (c .before .before .before .before .before .before .before .before)) (subst (λ (y : ℕ). z .args .b .high < y) (s .ensures) (c .before .before .before .before .before .if1 .left)) _ (down (c .before)))
+    rw (c .add-ordinals2 .ensures) (climbs (F .fraction) (F .exponent) (z .pre .0 .some) (span (z .args .x)) (span (z .args .a)) (span (z .args .b)) (z .pre .4) (z .pre .5) (z .pre .1) (z .pre .2) (z .pre .3) (z .pre .6) (z .pre .7) _ (up (c .before .before .before .before .before .before .before .before)) (subst (λ (y : ℕ). z .args .b .high < y) (s .ensures) (c .before .before .before .before .before .if1 .left)) _ (down (c .before)))
 
 pub climb-spec : {M : Type 1} → statement M
 climb-spec =

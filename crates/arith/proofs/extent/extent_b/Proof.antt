@@ -9,7 +9,6 @@ use Rattle.arith.specs.Formats.{mirrored, sum}
 use Rattle.arith.specs.Intervals.{reflected, span}
 use Rattle.arith.specs.Searches.{HasB}
 use Rattle.arith.proofs.Intervals.{reflected-ends}
-use Rattle.arith.proofs.Bounds.{bounded}
 use Rattle.arith.proofs.extent.extent_b.Statement.{statement}
 use Rattle.arith.proofs.extent.extent_b.Tie as tie
 
@@ -46,25 +45,25 @@ least-b-requires-2 c κs =
     let z = c .before .before .before .before .before .before .before in
     let F = z .args .format in
     let g = max-holds (HasB F (z .args .x) (z .args .a) (z .args .b)) _ _ (record { x = _; a = _; solution = z .pre .4 }) (record { x = _; a = _; solution = z .pre .5 }) in
-    let S = mirror-solution (F .fraction) (F .exponent) (z .pre .0 .some) (span (z .args .x)) (span (z .args .a)) (span (z .args .b)) (bounded (z .pre .1)) (bounded (z .pre .2)) (bounded (z .pre .3)) in
+    let S = mirror-solution (F .fraction) (F .exponent) (z .pre .0 .some) (span (z .args .x)) (span (z .args .a)) (span (z .args .b)) (z .pre .1) (z .pre .2) (z .pre .3) in
     let u = S _ _ _ (z .pre .4) in
     let v = S _ _ _ (z .pre .5) in
     let r1 : mirrored F (z .args .b .high) ≤ sum F (mirrored F (z .args .x .high)) (mirrored F (z .args .a .low)) = omega (arith, v .is, v .b-in .low) in
     let r2 : mirrored F (z .args .b .high) ≤ sum F (mirrored F (z .args .x .low)) (mirrored F (z .args .a .high)) = omega (arith, u .is, u .b-in .low) in
-    let h = mirror-b (F .fraction) (F .exponent) (z .pre .0 .some) (span (z .args .x)) (span (z .args .a)) (span (z .args .b)) (bounded (z .pre .1)) (bounded (z .pre .2)) (bounded (z .pre .3)) _ g in
+    let h = mirror-b (F .fraction) (F .exponent) (z .pre .0 .some) (span (z .args .x)) (span (z .args .a)) (span (z .args .b)) (z .pre .1) (z .pre .2) (z .pre .3) _ g in
     (z .pre .0, reflected-ends F _ _ (c .before .before .before .before .reflect .ensures) (z .pre .1), reflected-ends F _ _ (c .before .before .before .reflect2 .ensures) (z .pre .2), reflected-ends F _ _ (c .before .before .reflect3 .ensures) (z .pre .3), rw (c .before .before .before .before .reflect .ensures, c .before .before .before .reflect2 .ensures, c .before .before .reflect3 .ensures) r1, rw (c .before .before .before .before .reflect .ensures, c .before .before .before .reflect2 .ensures, c .before .before .reflect3 .ensures) r2, rw (c .before .before .before .before .reflect .ensures, c .before .before .before .reflect2 .ensures, c .before .before .reflect3 .ensures, c .mirror-of .ensures, c .before .max .ensures) h)
 
 mirror-of-requires-2 : tie.Need-mirror-of-requires-2
 mirror-of-requires-2 c κs =
     let z = c .before .before .before .before .before .before .before .before in
     let F = z .args .format in
-    (z .pre .0, finite-in (F .fraction) (F .exponent) _ (mirror-bounded (F .fraction) (F .exponent) (span (z .args .b)) (bounded (z .pre .3))) _ (mirrored-least c .holds .solution .b-in))
+    (z .pre .0, finite-in (F .fraction) (F .exponent) _ (mirror-bounded (F .fraction) (F .exponent) (span (z .args .b)) (z .pre .3)) _ (mirrored-least c .holds .solution .b-in))
 
 returns : tie.Need-returns
 returns c =
     let z = c .before .before .before .before .before .before .before .before .before in
     let F = z .args .format in
-    rw (c .mirror-of2 .ensures) (spans-of (c .before .before .before .before .before .before .before .least-b .ensures) (mirror-b-greatest (F .fraction) (F .exponent) (z .pre .0 .some) (span (z .args .x)) (span (z .args .a)) (span (z .args .b)) (bounded (z .pre .1)) (bounded (z .pre .2)) (bounded (z .pre .3)) _ (mirrored-least (c .before))))
+    rw (c .mirror-of2 .ensures) (spans-of (c .before .before .before .before .before .before .before .least-b .ensures) (mirror-b-greatest (F .fraction) (F .exponent) (z .pre .0 .some) (span (z .args .x)) (span (z .args .a)) (span (z .args .b)) (z .pre .1) (z .pre .2) (z .pre .3) _ (mirrored-least (c .before))))
 
 pub extent-b-spec : {M : Type 1} → statement M
 extent-b-spec =

@@ -12,7 +12,6 @@ use Rattle.arith.specs.declared.corner.Corner.the-variants as Corner
 use Rattle.arith.specs.Formats.{sum}
 use Rattle.arith.specs.Searches.{CornerOf}
 use Rattle.arith.specs.Intervals.{span}
-use Rattle.arith.proofs.Bounds.{bounded}
 use Rattle.arith.proofs.extent.least_above.Statement.{statement}
 use Rattle.arith.proofs.extent.least_above.Tie as tie
 
@@ -44,7 +43,7 @@ returns-2 : tie.Need-returns-2
 returns-2 c =
     let z = c .before .before .before .before .before .before in
     let F = z .args .format in
-    lowest-least (F .fraction) (F .exponent) (z .pre .0 .some) (z .args .b .low) (z .pre .3 .low) (span (z .args .x)) (span (z .args .a)) (bounded (z .pre .1)) (bounded (z .pre .2)) (no-sum (c .before .before .before)) (z .pre .4) (z .pre .5) (z .args .known) (z .pre .7) (z .pre .8) (λ d y l h. absurd (omega (arith, d, z .pre .0 .sign))) (λ d y l h. absurd (omega (arith, d, z .pre .0 .sign))) (span (z .args .b)) refl (z .pre .6)
+    lowest-least (F .fraction) (F .exponent) (z .pre .0 .some) (z .args .b .low) (z .pre .3 .low) (span (z .args .x)) (span (z .args .a)) (z .pre .1) (z .pre .2) (no-sum (c .before .before .before)) (z .pre .4) (z .pre .5) (z .args .known) (z .pre .7) (z .pre .8) (λ d y l h. absurd (omega (arith, d, z .pre .0 .sign))) (λ d y l h. absurd (omega (arith, d, z .pre .0 .sign))) (span (z .args .b)) refl (z .pre .6)
 
 lesser-before-requires : tie.Need-lesser-before-requires
 lesser-before-requires c κs = search needs
@@ -62,7 +61,7 @@ returns-3 c =
     let p = c .before .lesser-before .ensures in
     let q = c .lesser-before2 .ensures in
     let h = le-trans (q .1) (p .1) in
-    lowest-least (F .fraction) (F .exponent) (z .pre .0 .some) (z .args .b .low) (z .pre .3 .low) (span (z .args .x)) (span (z .args .a)) (bounded (z .pre .1)) (bounded (z .pre .2)) (no-sum (c .before .before .before .before .before)) (z .pre .4) (z .pre .5) (c .lesser-before2 .result) (at-most-less h (z .pre .7)) (at-most-less h (z .pre .8)) (λ d y l i. at-most-less (q .1) (p .2 y l i)) (λ d y l i. q .2 y l i) (span (z .args .b)) refl (swap-b (F .fraction) (F .exponent) (span (z .args .a)) (span (z .args .x)) (span (z .args .b)) _ (q .0))
+    lowest-least (F .fraction) (F .exponent) (z .pre .0 .some) (z .args .b .low) (z .pre .3 .low) (span (z .args .x)) (span (z .args .a)) (z .pre .1) (z .pre .2) (no-sum (c .before .before .before .before .before)) (z .pre .4) (z .pre .5) (c .lesser-before2 .result) (at-most-less h (z .pre .7)) (at-most-less h (z .pre .8)) (λ d y l i. at-most-less (q .1) (p .2 y l i)) (λ d y l i. q .2 y l i) (span (z .args .b)) refl (swap-b (F .fraction) (F .exponent) (span (z .args .a)) (span (z .args .x)) (span (z .args .b)) _ (q .0))
 
 pub least-above-spec : {M : Type 1} → statement M
 least-above-spec =

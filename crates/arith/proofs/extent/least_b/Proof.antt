@@ -10,7 +10,7 @@ use Rattle.ladder.proofs.Solutions.{swap-b}
 use Rattle.ladder.proofs.LeastSum.{lows-least, floor-least}
 use Rattle.arith.specs.declared.range.Range.{Range}
 use Rattle.arith.specs.Formats.{Sound, sum}
-use Rattle.arith.specs.Intervals.{Ends, span}
+use Rattle.arith.specs.Intervals.{Bounded, span}
 use Rattle.arith.specs.Searches.{HasB}
 use Rattle.arith.proofs.extent.least_b.Statement.{statement}
 use Rattle.arith.proofs.extent.least_b.Tie as tie
@@ -46,7 +46,7 @@ least-with-requires c κs =
     let b = z .args .b in
     let r1 : b .low ≤ sum F (z .args .a .low) (z .args .x .high) = subst (λ (s : ℕ). b .low ≤ s) (sum-comm (F .fraction) (F .exponent) _ _) (z .pre .5) in
     let r2 : b .low ≤ sum F (z .args .a .high) (z .args .x .low) = subst (λ (s : ℕ). b .low ≤ s) (sum-comm (F .fraction) (F .exponent) _ _) (z .pre .4) in
-    chosen (λ (X A : Range). Sound F × Ends F X × Ends F A × Ends F b × (b .low ≤ sum F (X .low) (A .high)) × (b .low ≤ sum F (X .high) (A .low)) × HasB F X A b (z .args .known)) (z .args .x) (z .args .a) _ _ (z .pre) (z .pre .0, z .pre .2, z .pre .1, z .pre .3, r1, r2, swap-b (F .fraction) (F .exponent) (span (z .args .x)) (span (z .args .a)) (span (z .args .b)) _ (z .pre .6)) (c .farther-first .ensures)
+    chosen (λ (X A : Range). Sound F × Bounded F X × Bounded F A × Bounded F b × (b .low ≤ sum F (X .low) (A .high)) × (b .low ≤ sum F (X .high) (A .low)) × HasB F X A b (z .args .known)) (z .args .x) (z .args .a) _ _ (z .pre) (z .pre .0, z .pre .2, z .pre .1, z .pre .3, r1, r2, swap-b (F .fraction) (F .exponent) (span (z .args .x)) (span (z .args .a)) (span (z .args .b)) _ (z .pre .6)) (c .farther-first .ensures)
 
 returns-3 : tie.Need-returns-3
 returns-3 c =

@@ -8,7 +8,6 @@ use Rattle.ladder.proofs.LeastSum.{sums-nearer}
 use Rattle.arith.specs.declared.operand.Found.the-variants.{At, Absent}
 use Rattle.arith.specs.Searches.{Attains, LeastOf}
 use Rattle.arith.specs.Intervals.{span}
-use Rattle.arith.proofs.Bounds.{bounded}
 use Rattle.arith.proofs.extent.lesser.Statement.{statement}
 use Rattle.arith.proofs.extent.lesser.Tie as tie
 
@@ -19,7 +18,7 @@ found c = rw (c .before .y .given .1) at (c .before .before .before .least-opera
 least-operand-requires : tie.Need-least-operand-requires
 least-operand-requires c κs =
     let F = c .args .format in
-    (c .pre .0, finite-in (F .fraction) (F .exponent) (span (c .args .a)) (bounded (c .pre .2)) _ (record { low = c .pre .4; high = c .pre .5 }), c .pre .3 .low, c .pre .1)
+    (c .pre .0, finite-in (F .fraction) (F .exponent) (span (c .args .a)) (c .pre .2) _ (record { low = c .pre .4; high = c .pre .5 }), c .pre .3 .low, c .pre .1)
 
 enum-known-y : tie.Need-enum-known-y
 enum-known-y c = search needs
@@ -28,7 +27,7 @@ add-ordinals-requires : tie.Need-add-ordinals-requires
 add-ordinals-requires c κs =
     let z = c .before .before .before .before in
     let F = z .args .format in
-    (z .pre .0, finite-in (F .fraction) (F .exponent) (span (z .args .x)) (bounded (z .pre .1)) _ (found c .holds .inside), finite-in (F .fraction) (F .exponent) (span (z .args .a)) (bounded (z .pre .2)) _ (record { low = z .pre .4; high = z .pre .5 }))
+    (z .pre .0, finite-in (F .fraction) (F .exponent) (span (z .args .x)) (z .pre .1) _ (found c .holds .inside), finite-in (F .fraction) (F .exponent) (span (z .args .a)) (z .pre .2) _ (record { low = z .pre .4; high = z .pre .5 }))
 
 min-requires : tie.Need-min-requires
 min-requires c κs = search needs

@@ -61,7 +61,7 @@ shared-in-requires c κs =
     let s3 = s4 .before .before .before in
     let s2 = s3 .before .before .before in
     let f = finite-both s2 in
-    (s2 .before .before .before .before .pre, common-ends _ _ _ _ (c .shared .ensures) (range-ends _ _ _ (s3 .before .before .range-of .ensures) (f .0)) (range-ends _ _ _ (s4 .before .before .range-of2 .ensures) (f .1)))
+    (s2 .before .before .before .before .pre, common-ends (s2 .before .before .before .before .args .format) _ _ _ (c .shared .ensures) (range-ends _ _ _ (s3 .before .before .range-of .ensures) (f .0)) (range-ends _ _ _ (s4 .before .before .range-of2 .ensures) (f .1)))
 
 returns-5 : tie.Need-returns-5
 unfolding cutIn

@@ -27,7 +27,7 @@ reflect-requires c κs =
     (s .before .before .pre, range-ends _ _ _ (c .before .before .range-of .ensures) (holds (s .before .ends-finite .ensures) (s .if1 .left)))
 
 interval-of-requires : tie.Need-interval-of-requires
-interval-of-requires c κs = let r = reflect-requires (c .before) κs in (r .0, reflected-ends _ _ _ (c .reflect .ensures) (r .1))
+interval-of-requires c κs = let r = reflect-requires (c .before) κs in (r .0, reflected-ends (c .before .before .before .before .before .before .args .format) _ _ (c .reflect .ensures) (r .1))
 
 returns-3 : tie.Need-returns-3
 unfolding mirrorIn

@@ -2,7 +2,7 @@
 use mathlib.Core.Path.{_≡_}
 use borrow.Author.Needs.{needs}
 use Rattle.arith.specs.declared.narrow.Ranges.the-variants.{None, Ends}
-use Rattle.arith.specs.Intervals as I
+use Rattle.arith.specs.Intervals.{Bounded}
 use Rattle.arith.specs.Searches.{narrowingIn}
 use Rattle.arith.specs.Narrows.{narrowing}
 use Rattle.arith.proofs.Narrowings.{narrowed-ends, answer-none, answer-ends}
@@ -13,7 +13,7 @@ use Rattle.arith.proofs.narrow.narrow_ordered.Tie as tie
 ends-are : (c : tie.After-known-told) → let z = c .before .before .before .before .args in narrowingIn (Ends (c .before .p .given .0 .0) (c .before .p .given .0 .1 .0) (c .before .p .given .0 .1 .1 .0)) ≡ narrowing (z .format) (z .x) (z .a) (z .b)
 ends-are c = rw (c .before .p .given .1) at (c .before .before .before .narrow-ranges .ensures)
 
-ends-finite : (c : tie.After-known-told) → let F = c .before .before .before .before .args .format in I.Ends F (c .before .p .given .0 .0) × I.Ends F (c .before .p .given .0 .1 .0) × I.Ends F (c .before .p .given .0 .1 .1 .0)
+ends-finite : (c : tie.After-known-told) → let F = c .before .before .before .before .args .format in Bounded F (c .before .p .given .0 .0) × Bounded F (c .before .p .given .0 .1 .0) × Bounded F (c .before .p .given .0 .1 .1 .0)
 ends-finite c =
     let z = c .before .before .before .before in
     narrowed-ends (z .args .format) (z .args .x) (z .args .a) (z .args .b) _ _ _ (ends-are c) (z .pre .1) (z .pre .2) (z .pre .3)

@@ -8,7 +8,6 @@ use Rattle.arith.specs.Formats.{mirrored}
 use Rattle.arith.specs.Intervals.{reflected, span}
 use Rattle.arith.specs.Searches.{Attains, LeastOf}
 use Rattle.arith.proofs.Intervals.{reflected-ends}
-use Rattle.arith.proofs.Bounds.{bounded}
 use Rattle.arith.proofs.operand.greatest_operand.Statement.{statement}
 use Rattle.arith.proofs.operand.greatest_operand.Tie as tie
 
@@ -38,7 +37,7 @@ mirror-of-requires-3 : tie.Need-mirror-of-requires-3
 mirror-of-requires-3 c κs =
     let z = c .before .before .before .before .before .before .before in
     let F = z .args .format in
-    (z .pre .0, finite-in (F .fraction) (F .exponent) _ (mirror-bounded (F .fraction) (F .exponent) (span (z .args .r)) (bounded (z .pre .3))) _ (mirrored-least c .holds .inside))
+    (z .pre .0, finite-in (F .fraction) (F .exponent) _ (mirror-bounded (F .fraction) (F .exponent) (span (z .args .r)) (z .pre .3)) _ (mirrored-least c .holds .inside))
 
 enum-told : tie.Need-enum-told
 enum-told c = search needs
@@ -47,14 +46,14 @@ returns : tie.Need-returns
 returns c =
     let z = c .before .before .before .before .before .before .before .before in
     let F = z .args .format in
-    rw (c .mirror-of3 .ensures) (greatest-operand (F .fraction) (F .exponent) (z .pre .0 .some) (z .args .a) (z .args .b) (span (z .args .r)) (z .pre .1) (z .pre .2) (bounded (z .pre .3)) _ (mirrored-least (c .before)))
+    rw (c .mirror-of3 .ensures) (greatest-operand (F .fraction) (F .exponent) (z .pre .0 .some) (z .args .a) (z .args .b) (span (z .args .r)) (z .pre .1) (z .pre .2) (z .pre .3) _ (mirrored-least (c .before)))
 
 returns-2 : tie.Need-returns-2
 returns-2 c =
     let z = c .before .before .before .before .before .before in
     let F = z .args .format in
     let n : LeastOf (Attains F (mirrored F (z .args .a)) (mirrored F (z .args .b)) (reflected F (z .args .r))) Absent = rw (c .enum-told .given .1, c .before .before .before .before .before .mirror-of .ensures, c .before .before .before .before .mirror-of2 .ensures, c .before .before .before .reflect .ensures) at (c .before .before .least-operand .ensures) in
-    greatest-never (F .fraction) (F .exponent) (z .pre .0 .some) (z .args .a) (z .args .b) (span (z .args .r)) (z .pre .1) (z .pre .2) (bounded (z .pre .3)) n
+    greatest-never (F .fraction) (F .exponent) (z .pre .0 .some) (z .args .a) (z .args .b) (span (z .args .r)) (z .pre .1) (z .pre .2) (z .pre .3) n
 
 pub greatest-operand-spec : {M : Type 1} → statement M
 greatest-operand-spec =
