@@ -31,12 +31,12 @@ fn append(buf: &mut [u8], at: usize, s: &[u8]) -> usize {
     at + i
 }
 
-// The listing of some first lines and a line that comes n times.
-fn show_many(head: &[u8], line: &[u8], n: usize) {
+// The listing of some first lines and others that come n times.
+fn show_many(head: &[u8], lines: &[u8], n: usize) {
     let mut text = [0u8; 8192];
     let mut at = append(&mut text, 0, head);
     for _ in 0..n {
-        at = append(&mut text, at, line);
+        at = append(&mut text, at, lines);
     }
     if at <= 8192 {
         show(&text[..at]);
@@ -48,12 +48,10 @@ fn sheets() {
     show(
         b"sheet\t64\t1\ncell\tC630000000000000\tC330000000000000\ncell\t3FF0000000000000\t4630000000000000\ncell\t3FE0000000000000\t3FF8000000000000\nsum\t0\t1\t2\n",
     );
-    show(
-        b"sheet\t64\t5\ncell\t0000000000000000\t000000000000000A\ncell\t0000000000000001\t0000000000000001\ncell\t0000000000000000\t000000000000000A\ncell\t0000000000000000\t0000000000000000\nsum\t0\t1\t2\nsum\t2\t3\t0\n",
-    );
-    show(
-        b"sheet\t64\t6\ncell\t0000000000000000\t000000000000000A\ncell\t0000000000000001\t0000000000000001\ncell\t0000000000000000\t000000000000000A\ncell\t0000000000000000\t0000000000000000\nsum\t0\t1\t2\nsum\t2\t3\t0\n",
-    );
+    let two_sums =
+        b"cell\t0000000000000000\t000000000000000A\ncell\t0000000000000001\t0000000000000001\ncell\t0000000000000000\t000000000000000A\ncell\t0000000000000000\t0000000000000000\nsum\t0\t1\t2\nsum\t2\t3\t0\n";
+    show_many(b"sheet\t64\t5\n", two_sums, 1);
+    show_many(b"sheet\t64\t6\n", two_sums, 1);
     show(
         b"sheet\t32\t65535\ncell\tFF7FFFFF\t7F7FFFFF\ncell\t3F800000\t3F800000\ncell\t3F800000\t3F800000\nsum\t0\t1\t2\n",
     );
@@ -100,15 +98,9 @@ fn main() {
     show(&long);
     show_many(b"sheet\t32\t1\n", b"cell\t00000000\t3F800000\n", 64);
     show_many(b"sheet\t32\t1\n", b"cell\t00000000\t3F800000\n", 65);
-    show_many(
-        b"sheet\t32\t9\ncell\t00000000\t3F800000\ncell\t00000000\t3F800000\ncell\t00000000\t3F800000\n",
-        b"sum\t0\t1\t2\n",
-        128,
-    );
-    show_many(
-        b"sheet\t32\t9\ncell\t00000000\t3F800000\ncell\t00000000\t3F800000\ncell\t00000000\t3F800000\n",
-        b"sum\t0\t1\t2\n",
-        129,
-    );
+    let three =
+        b"sheet\t32\t9\ncell\t00000000\t3F800000\ncell\t00000000\t3F800000\ncell\t00000000\t3F800000\n";
+    show_many(three, b"sum\t0\t1\t2\n", 128);
+    show_many(three, b"sum\t0\t1\t2\n", 129);
     records::read_records();
 }
