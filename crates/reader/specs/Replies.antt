@@ -53,7 +53,8 @@ replyAt ahead c =
 unfoldable pub replyNext : List ℕ → Cursor → Reply ℕ
 replyNext text c = cond (ltb 8192 (length text)) (refuses (record { number = 8; place = 0 })) (replyAt (drop (c .at) text) c)
 
--- ---- what a step from a cursor promises: the reply due, and that a refused record and the end, which give no value, are stayed at
+-- ---- what a step from a cursor promises: the reply due, and that a refused record and the end are stayed at
 pub record Tells (text : List ℕ) (c : Cursor) (step : Step) (after : Cursor) : Type 0 where
   pub told : stepTold step ≡ replyNext text c
-  pub stays : stepTold step .values ≡ [] → after ≡ c
+  pub refused : (stepTold step .number ≡ 0 → ⊥) → after ≡ c
+  pub ended : step ≡ End → after ≡ c
