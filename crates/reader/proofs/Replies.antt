@@ -3,7 +3,7 @@ use mathlib.Core.Path.{_≡_, refl}
 use mathlib.Core.Bool.{Bool, true, false, not, cond}
 use mathlib.Core.List.{List}
 use Prim.Native.Nat.{ℕ}
-use lib.Dec.{eqb, ltb, leb}
+use lib.Dec.{eqb, ltb}
 use lib.ListN.{length, drop}
 use Rattle.arith.specs.Answers.{Reply}
 use Rattle.arith.specs.Replies.{replyAfter}
@@ -30,8 +30,8 @@ not-told false a b e f = f
 line-told : (l : Line) (n : ℕ) (c : Cursor) → stepTold (admitted l (c .line) (pastLine n c)) ≡ replyAfter (lineTests l c) (lineValues l)
 unfolding admitted headStep cellStep sumStep
 line-told (Line.Head w m) n c = on-test stepTold (eqb (headFault w m) 0) _ _ (λ _. refl) refl
-line-told (Line.Cell I) n c = on-test stepTold (eqb (cellFault (c .width) I) 0) _ _ (λ _. not-told (leb 64 (c .«cell_count»)) _ _ refl refl) refl
-line-told (Line.Sum t) n c = on-test stepTold (eqb (sumFault (c .«cell_count») t) 0) _ _ (λ _. not-told (leb 128 (c .«sum_count»)) _ _ refl refl) refl
+line-told (Line.Cell I) n c = on-test stepTold (eqb (cellFault (c .width) I) 0) _ _ (λ _. on-test stepTold (ltb (c .«cell_count») 64) _ _ (λ _. refl) refl) refl
+line-told (Line.Sum t) n c = on-test stepTold (eqb (sumFault (c .«cell_count») t) 0) _ _ (λ _. on-test stepTold (ltb (c .«sum_count») 128) _ _ (λ _. refl) refl) refl
 line-told Line.Malformed n c = refl
 
 -- ---- a text

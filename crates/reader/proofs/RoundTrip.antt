@@ -7,7 +7,7 @@ use native.Mathlib.Omega.{arith}
 use lib.Dec.{leb, ltb, eqb}
 use lib.ListN.{length, length-append, drop-of-length-le}
 use lib.Seq.{length-take-le}
-use borrow.Author.Tests.{eq-eqb, ne-eqb, le-ltb, lt-leb, leb-false, ltb-false, eqb-true}
+use borrow.Author.Tests.{eq-eqb, ne-eqb, le-ltb, lt-ltb, leb-false, ltb-false, eqb-true}
 use Rattle.arith.specs.declared.interval.Interval.{Interval}
 use Rattle.sheet.specs.declared.kept.Record.{Record}
 use Rattle.sheet.specs.declared.kept.Sheet.{Sheet}
@@ -77,12 +77,12 @@ module _ (text read rest : List ℕ) (w i j : ℕ) (h : length text ≤ 8192) (p
   cell-next : (I : Interval) → text ≡ read ++ (cellText w I ++ (feed ∷ rest)) → cellFault w I ≡ 0 → i < 64 → nextOf text (after read w i j) ≡ Cell I (after (read ++ (cellText w I ++ (feed ∷ []))) w (i + 1) j)
   unfolding admitted cellStep
   cell-next I e z l =
-      rw (e, next-line read (cellText w I) rest w i j (cell-free w I) (rw e at h), cell-back (length read) w I p (cell-small w I z), eq-eqb (cellFault w I) 0 z, lt-leb 64 i l)
+      rw (e, next-line read (cellText w I) rest w i j (cell-free w I) (rw e at h), cell-back (length read) w I p (cell-small w I z), eq-eqb (cellFault w I) 0 z, lt-ltb i 64 l)
 
   sum-next : (t : Record) → text ≡ read ++ (sumText t ++ (feed ∷ rest)) → Few t → sumFault i t ≡ 0 → j < 128 → nextOf text (after read w i j) ≡ Sum t (after (read ++ (sumText t ++ (feed ∷ []))) w i (j + 1))
   unfolding admitted sumStep
   sum-next t e f z l =
-      rw (e, next-line read (sumText t) rest w i j (sum-free t) (rw e at h), sum-back (length read) w t p f, eq-eqb (sumFault i t) 0 z, lt-leb 128 j l)
+      rw (e, next-line read (sumText t) rest w i j (sum-free t) (rw e at h), sum-back (length read) w t p f, eq-eqb (sumFault i t) 0 z, lt-ltb j 128 l)
 
 end-next : (text : List ℕ) (w i j : ℕ) → length text ≤ 8192 → 0 < length text → nextOf text (after text w i j) ≡ End
 unfolding nextOf indexOf
