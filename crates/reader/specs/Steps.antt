@@ -102,6 +102,6 @@ cursorAfter (suc n) text = afterOf text (cursorAfter n text)
 unfoldable pub recordAt : List ℕ → Cursor → List ℕ
 recordAt text c = cond (ltb 8192 (length text)) [] (before feed (drop (c .at) text))
 
--- 01's line at a position, from 1: one more than the line feeds before it. A cursor reached from the start keeps it (`kept-line`, proofs/Counting)
+-- 01's line at a position, from 1: one more than the line feeds before it. A cursor reached from the start keeps it (`kept-line`, proofs/Placing)
 unfoldable pub lineNumber : List ℕ → ℕ → ℕ
 lineNumber text at = countOf feed (take at text) + 1
