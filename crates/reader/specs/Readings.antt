@@ -53,7 +53,7 @@ unfoldable pub sheetAfter : ℕ → List ℕ → Sheet
 sheetAfter zero text = blank 0 0
 sheetAfter (suc n) text = grown (nextOf text (cursorAfter n text)) (sheetAfter n text)
 
--- the sheet takes the record that a step gives: opening it, or adding it, is not refused
+-- the sheet takes the record that a step gives: opening it, or adding it, is not refused (of every record of a text: `read-taken`, proofs/Tested)
 abbrev pub Taken : Sheet → Step → Type 0
 Taken s (Head w m c) = openOf w m .answer ≡ Answer.Done
 Taken s (Cell I c) = addCellOf s I .answer ≡ Answer.Done
