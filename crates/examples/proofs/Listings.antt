@@ -15,7 +15,7 @@ use Rattle.reader.specs.Numbers.{digitsFor}
 use Rattle.reader.specs.Digits.{digitByte, digitsOf, digitCount, decimalOf, hexOf}
 use Rattle.reader.specs.Texts.{headText, cellText, sumText, textLines, textFor}
 use Rattle.reader.specs.Readings.{readOf}
-use Rattle.reader.proofs.Building.{built, Sound}
+use Rattle.reader.proofs.Building.{built, Passing}
 use Rattle.reader.proofs.RoundTrip.{lists-back}
 use Rattle.listing.specs.Listings.{cellLine, cellLines, linesOf, listingOf, runFor, runOf}
 use Rattle.examples.specs.Quoted.{bytes}
@@ -23,7 +23,7 @@ use Rattle.examples.specs.Starred.{Listings, interval, over, chased, tex
 use Rattle.examples.proofs.Sheets.{sheets}
 
 -- ---- the text of cells and sums is run as their sheet
-text-run : (m : ℕ) (cells : List Interval) (sums : List Record) (text : List ℕ) → Sound 64 m cells sums → textFor 64 m cells sums ≡ text → runOf text ≡ narrowSheetOf (built 64 m cells sums)
+text-run : (m : ℕ) (cells : List Interval) (sums : List Record) (text : List ℕ) → Passing 64 m cells sums → textFor 64 m cells sums ≡ text → runOf text ≡ narrowSheetOf (built 64 m cells sums)
 unfolding runOf
 text-run m cells sums text g t = ap (λ (k : Kept). runFor (k .sheet) (k .answer)) (ap readOf (sym t) ∙ lists-back 64 m cells sums g)
 
@@ -31,14 +31,14 @@ text-run m cells sums text g t = ap (λ (k : Kept). runFor (k .sheet) (k .answer
 abbrev cells000 : List Interval
 cells000 = interval 0xC630000000000000 0xC330000000000000 ∷ interval 0x3FF0000000000000 0x4630000000000000 ∷ interval 0x3FE0000000000000 0x3FF8000000000000 ∷ []
 
-sound000 : Sound 64 10 cells000 (over 0 1 2 ∷ [])
+passing000 : Passing 64 10 cells000 (over 0 1 2 ∷ [])
 unfolding headFault cellFault sumFault canonicalOf canonicalIn endsFinite isOrdered ordinal sign infinity
-sound000 = record { head = refl; few-cells = lit≤ tt; few-sums = lit≤ tt; cells = (refl, (refl, (refl, tt))); sums = (refl, tt) }
+passing000 = record { head = refl; few-cells = lit≤ tt; few-sums = lit≤ tt; cells = (refl, (refl, (refl, tt))); sums = (refl, tt) }
 
 -- ---- the two sums
-chase-sound : (m : ℕ) → headFault 64 m ≡ 0 → Sound 64 m chased (over 0 1 2 ∷ over 2 3 0 ∷ [])
+chase-passing : (m : ℕ) → headFault 64 m ≡ 0 → Passing 64 m chased (over 0 1 2 ∷ over 2 3 0 ∷ [])
 unfolding cellFault sumFault canonicalOf canonicalIn endsFinite isOrdered ordinal sign infinity
-chase-sound m z = record { head = z; few-cells = lit≤ tt; few-sums = lit≤ tt; cells = (refl, (refl, (refl, (refl, tt)))); sums = (refl, (refl, tt)) }
+chase-passing m z = record { head = z; few-cells = lit≤ tt; few-sums = lit≤ tt; cells = (refl, (refl, (refl, (refl, tt)))); sums = (refl, (refl, tt)) }
 
 -- ---- the texts are theirs
 record Texts : Type 0 where
@@ -54,7 +54,7 @@ texts = record { whole = refl; stops = refl; breaks = refl }
 pub listings : Listings
 unfolding headFault linesOf cellLines cellLine decimalOf digitCount digitsOf digitByte hexOf digitsFor bytes ordinal pattern sign
 listings = record {
-  whole = ap listingOf (text-run 10 cells000 (over 0 1 2 ∷ []) (bytes text000) sound000 (texts .whole) ∙ sheets .settles);
-  stops = ap listingOf (text-run 5 chased (over 0 1 2 ∷ over 2 3 0 ∷ []) (bytes ("sheet\t64\t5\n" ++ chaseText)) (chase-sound 5 refl) (texts .stops) ∙ sheets .stops);
-  breaks = ap listingOf (text-run 6 chased (over 0 1 2 ∷ over 2 3 0 ∷ []) (bytes ("sheet\t64\t6\n" ++ chaseText)) (chase-sound 6 refl) (texts .breaks) ∙ sheets .breaks);
+  whole = ap listingOf (text-run 10 cells000 (over 0 1 2 ∷ []) (bytes text000) passing000 (texts .whole) ∙ sheets .settles);
+  stops = ap listingOf (text-run 5 chased (over 0 1 2 ∷ over 2 3 0 ∷ []) (bytes ("sheet\t64\t5\n" ++ chaseText)) (chase-passing 5 refl) (texts .stops) ∙ sheets .stops);
+  breaks = ap listingOf (text-run 6 chased (over 0 1 2 ∷ over 2 3 0 ∷ []) (bytes ("sheet\t64\t6\n" ++ chaseText)) (chase-passing 6 refl) (texts .breaks) ∙ sheets .breaks);
 }

@@ -80,7 +80,7 @@ built w m cs ts =
     }
 
 -- what its test asks
-pub record Sound (w m : ℕ) (cs : List Interval) (ts : List Record) : Type 0 where
+pub record Passing (w m : ℕ) (cs : List Interval) (ts : List Record) : Type 0 where
   pub head : headFault w m ≡ 0
   pub few-cells : length cs ≤ 64
   pub few-sums : length ts ≤ 128
@@ -100,7 +100,7 @@ map-more : {A B : Type 0} (f : A → B) (l : List A) (a : A) → map f (l ++ (a 
 map-more f [] a = refl
 map-more f (x ∷ xs) a = ap (λ t. f x ∷ t) (map-more f xs a)
 
-module _ (w m : ℕ) (cs : List Interval) (ts : List Record) (g : Sound w m cs ts) where
+module _ (w m : ℕ) (cs : List Interval) (ts : List Record) (g : Passing w m cs ts) where
   used-cells : usedCells (built w m cs ts) ≡ map (canonicalCell w) cs
   used-cells = take-at (map (canonicalCell w) cs) (replicate (64 - length cs) noCell) (length cs) (length-map cs (canonicalCell w))
 

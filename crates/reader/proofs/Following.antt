@@ -1,4 +1,4 @@
--- Reading a text record by record: what is left to read gives the same sheet as the whole text. Rests on specs/Readings and Moving.
+-- Reading a text record by record: what is left to read gives the same as the whole text, and that is made of the records up to the end or the refused one. Rests on specs/Readings and Moving.
 use mathlib.Core.Path.{_≡_, refl, sym, subst}
 use mathlib.Core.List.{List}
 use Prim.Native.Nat.{ℕ, zero, suc, _-_, _<_, _≤_}
@@ -8,8 +8,8 @@ use Rattle.sheet.specs.declared.kept.Sheet.{Sheet}
 use Rattle.sheet.specs.declared.kept.Kept.{Kept}
 use Rattle.sheet.specs.declared.kept.Answer.the-variants as Answer
 use Rattle.sheet.specs.Sheets.{blank, openOf, addCellOf, addSumOf}
-use Rattle.reader.specs.Steps.{start, nextOf}
-use Rattle.reader.specs.Readings.{followed, readFrom, readOf, refusedText, BlankIfRefused}
+use Rattle.reader.specs.Steps.{start, nextOf, afterOf, cursorAfter}
+use Rattle.reader.specs.Readings.{refusedText, followed, readFrom, readOf, BlankIfRefused, sheetAfter, EndsWith, ReadBy}
 use Rattle.reader.specs.declared.cursor.Cursor.{Cursor}
 use Rattle.reader.specs.declared.cursor.Step.{Step}
 use Rattle.reader.specs.declared.cursor.Step.the-variants.{Head, Cell, Sum, End, Refused}
@@ -58,19 +58,39 @@ read-follows text c s (suc n) h e = step-follows text c n h s (nextOf text c) (g
 pub follows : {text : List ℕ} {c : Cursor} {s : Sheet} → Reading text c s → Follows text c s (nextOf text c)
 follows {text} {c} {s} r = read-follows text c s (r .left) (r .enough) (r .same)
 
--- ---- a refused text leaves the blank sheet
-step-blank : (go : Cursor → Sheet → Kept) → ((c : Cursor) (s : Sheet) → BlankIfRefused (go c s)) → (s : Sheet) (t : Step) → BlankIfRefused (followed go s t)
-step-blank go h s (Head w m d) = h d (openOf w m .sheet)
-step-blank go h s (Cell I d) = h d (addCellOf s I .sheet)
-step-blank go h s (Sum t d) = h d (addSumOf s t .sheet)
-step-blank go h s End = λ n. absurd (n refl)
-step-blank go h s (Refused r) = λ n. refl
+-- ---- the records that the reading is made of
+module _ (text : List ℕ) where
+  module _ (n : ℕ) (more : (k : ℕ) → length text - cursorAfter k text .at < n → ReadBy text (readFrom n text (cursorAfter k text) (sheetAfter k text))) (k : ℕ) (h : length text - cursorAfter k text .at < suc n) where
+    -- the record after the first k moves on to the cursor d and the sheet s
+    goes : (d : Cursor) (s : Sheet) → cursorAfter (suc k) text ≡ d → sheetAfter (suc k) text ≡ s → cursorAfter k text .at < d .at → d .at ≤ length text → ReadBy text (readFrom n text d s)
+    goes d s e f p q = rw (e, f) at (more (suc k) (rw e (omega arith)))
 
-from-blank : (n : ℕ) (text : List ℕ) (c : Cursor) (s : Sheet) → BlankIfRefused (readFrom n text c s)
-unfolding readFrom
-from-blank zero text c s = λ n. absurd (n refl)
-from-blank (suc n) text c s = step-blank (readFrom n text) (from-blank n text) s (nextOf text c)
+    step-records : (t : Step) → nextOf text (cursorAfter k text) ≡ t → Given text (cursorAfter k text) t → ReadBy text (followed (readFrom n text) (sheetAfter k text) t)
+    unfolding cursorAfter afterOf sheetAfter
+    step-records (Head w m d) e (a-head z f o) = goes d (openOf w m .sheet) (rw e) (rw e) (o .past) (o .within)
+    step-records (Cell I d) e (a-cell p f l o) = goes d (addCellOf (sheetAfter k text) I .sheet) (rw e) (rw e) (o .past) (o .within)
+    step-records (Sum t d) e (a-sum p f l o) = goes d (addSumOf (sheetAfter k text) t .sheet) (rw e) (rw e) (o .past) (o .within)
+    step-records End e g = record { records = k; ends = rw e refl }
+    step-records (Refused r) e g = record { records = k; ends = rw e refl }
+
+  from-records : (n k : ℕ) → length text - cursorAfter k text .at < n → ReadBy text (readFrom n text (cursorAfter k text) (sheetAfter k text))
+  unfolding readFrom
+  from-records zero k h = absurd (omega arith)
+  from-records (suc n) k h = step-records n (from-records n) k h (nextOf text (cursorAfter k text)) refl (given text (cursorAfter k text))
+
+  pub read-records : ReadBy text (readOf text)
+  unfolding readOf cursorAfter sheetAfter
+  read-records = from-records (suc (length text)) 0 (omega arith)
+
+-- ---- a refused text leaves the blank sheet
+ends-blank : (s : Sheet) (t : Step) (k : Kept) → EndsWith s t k → BlankIfRefused k
+ends-blank s (Head w m d) k e = absurd e
+ends-blank s (Cell I d) k e = absurd e
+ends-blank s (Sum t d) k e = absurd e
+ends-blank s End k e = λ n. absurd (n (rw e))
+ends-blank s (Refused r) k e = λ n. rw e
 
 pub blank-too : (text : List ℕ) {k : Kept} → k ≡ readOf text → (k ≡ readOf text) × BlankIfRefused k
-unfolding readOf
-blank-too text e = (e, subst BlankIfRefused (sym e) (from-blank (suc (length text)) text start (blank 0 0)))
+blank-too text e =
+    let r = read-records text in
+    (e, subst BlankIfRefused (sym e) (ends-blank (sheetAfter (r .records) text) (nextOf text (cursorAfter (r .records) text)) (readOf text) (r .ends)))

@@ -4,9 +4,9 @@ use mathlib.Core.Bool.{Bool, true, false, cond}
 use mathlib.Core.List.{List}
 use Prim.Native.Nat.{ℕ, _+_, _<_, _≤_}
 use native.Mathlib.Omega.{arith}
-use lib.Dec.{eqb, ltb, leb}
+use lib.Dec.{eqb, ltb}
 use lib.ListN.{length, drop, length-drop}
-use borrow.Author.Tests.{eqb-true, eqb-false, ltb-true, ltb-false, leb-false}
+use borrow.Author.Tests.{eqb-true, eqb-false, ltb-true, ltb-false}
 use Rattle.arith.specs.declared.interval.Interval.{Interval}
 use Rattle.sheet.specs.declared.kept.Record.{Record}
 use Rattle.sheet.specs.Faults.{headFault, cellFault, sumFault}
@@ -105,11 +105,11 @@ module _ (text : List ℕ) (c : Cursor) where
     line-given (Line.Head w m) (head z) = choose (eqb (headFault w m) 0) (λ e. a-head z (eqb-true (headFault w m) 0 e) (onto w 0 0)) (λ _. a-refusal (headFault w m))
     line-given (Line.Cell I) (cell p) =
         choose (eqb (cellFault (c .width) I) 0)
-        (λ e. choose (leb 64 (c .«cell_count»)) (λ _. a-refusal 10) (λ f. a-cell p (eqb-true (cellFault (c .width) I) 0 e) (leb-false 64 (c .«cell_count») f) (onto (c .width) (c .«cell_count» + 1) (c .«sum_count»))))
+        (λ e. choose (ltb (c .«cell_count») 64) (λ f. a-cell p (eqb-true (cellFault (c .width) I) 0 e) (ltb-true (c .«cell_count») 64 f) (onto (c .width) (c .«cell_count» + 1) (c .«sum_count»))) (λ _. a-refusal 10))
         (λ _. a-refusal (cellFault (c .width) I))
     line-given (Line.Sum t) (sum p) =
         choose (eqb (sumFault (c .«cell_count») t) 0)
-        (λ e. choose (leb 128 (c .«sum_count»)) (λ _. a-refusal 10) (λ f. a-sum p (eqb-true (sumFault (c .«cell_count») t) 0 e) (leb-false 128 (c .«sum_count») f) (onto (c .width) (c .«cell_count») (c .«sum_count» + 1))))
+        (λ e. choose (ltb (c .«sum_count») 128) (λ f. a-sum p (eqb-true (sumFault (c .«cell_count») t) 0 e) (ltb-true (c .«sum_count») 128 f) (onto (c .width) (c .«cell_count») (c .«sum_count» + 1))) (λ _. a-refusal 10))
         (λ _. a-refusal (sumFault (c .«cell_count») t))
     line-given Line.Malformed nowhere = a-refusal 4
 

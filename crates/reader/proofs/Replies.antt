@@ -1,10 +1,9 @@
--- What a step tells is the reply due at the cursor, test by test. Assumes nothing.
-use mathlib.Core.Path.{_≡_, refl, ap}
+-- What a step tells is the reply due at the cursor, test by test; and where the cursor stays. Rests on Staying.
+use mathlib.Core.Path.{_≡_, refl}
 use mathlib.Core.Bool.{Bool, true, false, not, cond}
-use mathlib.Core.List.{List, []}
+use mathlib.Core.List.{List}
 use Prim.Native.Nat.{ℕ}
-use native.Mathlib.Omega.{arith}
-use lib.Dec.{eqb, ltb, leb}
+use lib.Dec.{eqb, ltb}
 use lib.ListN.{length, drop}
 use Rattle.arith.specs.Answers.{Reply}
 use Rattle.arith.specs.Replies.{replyAfter}
@@ -19,6 +18,7 @@ use Rattle.reader.specs.declared.line.Line.the-variants as Line
 use Rattle.reader.specs.declared.cursor.Cursor.{Cursor}
 use Rattle.reader.specs.declared.cursor.Step.{Step}
 use Rattle.reader.specs.declared.cursor.Step.the-variants.{Head, Cell, Sum, End, Refused}
+use Rattle.reader.proofs.Staying.{stays-ended}
 
 -- ---- one test
 -- a step that refuses where it holds; the reply's test is its opposite
@@ -30,8 +30,8 @@ not-told false a b e f = f
 line-told : (l : Line) (n : ℕ) (c : Cursor) → stepTold (admitted l (c .line) (pastLine n c)) ≡ replyAfter (lineTests l c) (lineValues l)
 unfolding admitted headStep cellStep sumStep
 line-told (Line.Head w m) n c = on-test stepTold (eqb (headFault w m) 0) _ _ (λ _. refl) refl
-line-told (Line.Cell I) n c = on-test stepTold (eqb (cellFault (c .width) I) 0) _ _ (λ _. not-told (leb 64 (c .«cell_count»)) _ _ refl refl) refl
-line-told (Line.Sum t) n c = on-test stepTold (eqb (sumFault (c .«cell_count») t) 0) _ _ (λ _. not-told (leb 128 (c .«sum_count»)) _ _ refl refl) refl
+line-told (Line.Cell I) n c = on-test stepTold (eqb (cellFault (c .width) I) 0) _ _ (λ _. on-test stepTold (ltb (c .«cell_count») 64) _ _ (λ _. refl) refl) refl
+line-told (Line.Sum t) n c = on-test stepTold (eqb (sumFault (c .«cell_count») t) 0) _ _ (λ _. on-test stepTold (ltb (c .«sum_count») 128) _ _ (λ _. refl) refl) refl
 line-told Line.Malformed n c = refl
 
 -- ---- a text
@@ -45,14 +45,14 @@ pub next-told : (text : List ℕ) (c : Cursor) → stepTold (nextOf text c) ≡ 
 unfolding nextOf replyNext
 next-told text c = on-test stepTold (ltb 8192 (length text)) _ _ (λ _. refl) (at-told (drop (c .at) text) c)
 
--- a refused record and the end are stayed at
-past-stays : (s : Step) (c : Cursor) → stepTold s .values ≡ [] → past s c ≡ c
-past-stays (Head w m next) c e = absurd (let z : _≡_ {A = ℕ} 2 0 = ap length e in omega arith)
-past-stays (Cell I next) c e = absurd (let z : _≡_ {A = ℕ} 2 0 = ap length e in omega arith)
-past-stays (Sum t next) c e = absurd (let z : _≡_ {A = ℕ} 3 0 = ap length e in omega arith)
-past-stays End c e = refl
-past-stays (Refused r) c e = refl
+-- a refused record is stayed at, by the number that its step tells
+past-refused : (s : Step) (c : Cursor) → (stepTold s .number ≡ 0 → ⊥) → past s c ≡ c
+past-refused (Head w m next) c n = absurd (n refl)
+past-refused (Cell I next) c n = absurd (n refl)
+past-refused (Sum t next) c n = absurd (n refl)
+past-refused End c n = refl
+past-refused (Refused r) c n = refl
 
 pub step-tells : (text : List ℕ) (c : Cursor) → Tells text c (nextOf text c) (afterOf text c)
 unfolding afterOf
-step-tells text c = record { told = next-told text c; stays = past-stays (nextOf text c) c }
+step-tells text c = record { told = next-told text c; refused = past-refused (nextOf text c) c; ended = stays-ended text c }

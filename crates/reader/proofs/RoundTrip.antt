@@ -7,7 +7,7 @@ use native.Mathlib.Omega.{arith}
 use lib.Dec.{leb, ltb, eqb}
 use lib.ListN.{length, length-append, drop-of-length-le}
 use lib.Seq.{length-take-le}
-use borrow.Author.Tests.{eq-eqb, ne-eqb, le-ltb, lt-leb, leb-false, ltb-false, eqb-true}
+use borrow.Author.Tests.{eq-eqb, ne-eqb, le-ltb, lt-ltb, leb-false, ltb-false, eqb-true}
 use Rattle.arith.specs.declared.interval.Interval.{Interval}
 use Rattle.sheet.specs.declared.kept.Record.{Record}
 use Rattle.sheet.specs.declared.kept.Sheet.{Sheet}
@@ -21,7 +21,7 @@ use Rattle.reader.specs.Steps.{start, headStep, cellStep, sumStep, admit
 use Rattle.reader.specs.Readings.{readFrom, readOf}
 use Rattle.reader.specs.Texts.{headText, cellText, sumText, textLines, textFor, textOf}
 use Rattle.reader.specs.declared.cursor.Step.the-variants.{Head, Cell, Sum, End}
-use Rattle.reader.proofs.Building.{Faultless, faultless-list, faultless-front, faultless-next, built, Sound, length-more, add-cell, add-sum}
+use Rattle.reader.proofs.Building.{Faultless, faultless-list, faultless-front, faultless-next, built, Passing, length-more, add-cell, add-sum}
 use Rattle.reader.proofs.Records.{cell-small, Few, head-back, cell-back, sum-back, head-free, cell-free, sum-free, head-length, cell-length, sum-length}
 use Rattle.reader.proofs.Walking.{after, next-line, walk}
 
@@ -77,12 +77,12 @@ module _ (text read rest : List ℕ) (w i j : ℕ) (h : length text ≤ 8192) (p
   cell-next : (I : Interval) → text ≡ read ++ (cellText w I ++ (feed ∷ rest)) → cellFault w I ≡ 0 → i < 64 → nextOf text (after read w i j) ≡ Cell I (after (read ++ (cellText w I ++ (feed ∷ []))) w (i + 1) j)
   unfolding admitted cellStep
   cell-next I e z l =
-      rw (e, next-line read (cellText w I) rest w i j (cell-free w I) (rw e at h), cell-back (length read) w I p (cell-small w I z), eq-eqb (cellFault w I) 0 z, lt-leb 64 i l)
+      rw (e, next-line read (cellText w I) rest w i j (cell-free w I) (rw e at h), cell-back (length read) w I p (cell-small w I z), eq-eqb (cellFault w I) 0 z, lt-ltb i 64 l)
 
   sum-next : (t : Record) → text ≡ read ++ (sumText t ++ (feed ∷ rest)) → Few t → sumFault i t ≡ 0 → j < 128 → nextOf text (after read w i j) ≡ Sum t (after (read ++ (sumText t ++ (feed ∷ []))) w i (j + 1))
   unfolding admitted sumStep
   sum-next t e f z l =
-      rw (e, next-line read (sumText t) rest w i j (sum-free t) (rw e at h), sum-back (length read) w t p f, eq-eqb (sumFault i t) 0 z, lt-leb 128 j l)
+      rw (e, next-line read (sumText t) rest w i j (sum-free t) (rw e at h), sum-back (length read) w t p f, eq-eqb (sumFault i t) 0 z, lt-ltb j 128 l)
 
 end-next : (text : List ℕ) (w i j : ℕ) → length text ≤ 8192 → 0 < length text → nextOf text (after text w i j) ≡ End
 unfolding nextOf indexOf
@@ -102,7 +102,7 @@ lines-long line [] = omega arith
 lines-long line (v ∷ vs) = simp length-append (omega (arith, lines-long line vs))
 
 -- ---- the text of cells and sums that the test lets pass
-module _ (w m : ℕ) (cs : List Interval) (ts : List Record) (g : Sound w m cs ts) where
+module _ (w m : ℕ) (cs : List Interval) (ts : List Record) (g : Passing w m cs ts) where
   abbrev text : List ℕ
   text = textFor w m cs ts
 
@@ -131,7 +131,7 @@ module _ (w m : ℕ) (cs : List Interval) (ts : List Record) (g : Sound w m cs t
       let f = rw e at (g .cells) in
       let z = faultless-next (cellFault w) before I later f in
       let k : length before < 64 = omega (arith, g .few-cells, ap length e ∙ length-append before (I ∷ later)) in
-      let q : Sound w m before [] = record { head = g .head; few-cells = omega arith; few-sums = omega arith; cells = faultless-front (cellFault w) before (I ∷ later) f; sums = tt } in
+      let q : Passing w m before [] = record { head = g .head; few-cells = omega arith; few-sums = omega arith; cells = faultless-front (cellFault w) before (I ∷ later) f; sums = tt } in
       rw (cell-next text read rest w (length before) 0 fits p I t z k, add-cell w m before [] q I z k, length-more before I)
 
   one-sum :
@@ -143,7 +143,7 @@ module _ (w m : ℕ) (cs : List Interval) (ts : List Record) (g : Sound w m cs t
       let f = rw e at (g .sums) in
       let z = faultless-next (sumFault (length cs)) before r later f in
       let k : length before < 128 = omega (arith, g .few-sums, ap length e ∙ length-append before (r ∷ later)) in
-      let q : Sound w m cs before = record { head = g .head; few-cells = g .few-cells; few-sums = omega arith; cells = g .cells; sums = faultless-front (sumFault (length cs)) before (r ∷ later) f } in
+      let q : Passing w m cs before = record { head = g .head; few-cells = g .few-cells; few-sums = omega arith; cells = g .cells; sums = faultless-front (sumFault (length cs)) before (r ∷ later) f } in
       rw (sum-next text read rest w (length cs) (length before) fits p r t (few r z) z k, add-sum w m cs before q r z k, length-more before r)
 
   -- the steps after the head: a record each, and the end
@@ -189,7 +189,7 @@ round-trip s a b t =
     let p = passed (s .width) (s .limit) (s .«cell_count») (s .«sum_count») (usedCells s) (usedSums s) t in
     let c : length (usedCells s) ≡ s .«cell_count» = length-take-le (s .«cell_count») (s .cells) (omega (arith, p .few-cells)) in
     let d : length (usedSums s) ≡ s .«sum_count» = length-take-le (s .«sum_count») (s .sums) (omega (arith, p .few-sums)) in
-    let g : Sound (s .width) (s .limit) (usedCells s) (usedSums s) = record {
+    let g : Passing (s .width) (s .limit) (usedCells s) (usedSums s) = record {
       head = p .head;
       few-cells = omega (arith, p .few-cells);
       few-sums = omega (arith, p .few-sums);

@@ -2,8 +2,8 @@
 use mathlib.Core.Path.{_≡_}
 use mathlib.Core.Bool.{cond}
 use Prim.Native.Nat.{ℕ, _≤_, _<_}
-use lib.Dec.{eqb, leb}
-use borrow.Author.Tests.{eq-eqb, ne-eqb, le-leb, lt-leb}
+use lib.Dec.{eqb, ltb}
+use borrow.Author.Tests.{eq-eqb, ne-eqb, le-ltb, lt-ltb}
 use Rattle.reader.specs.Steps.{refusedAt}
 use Rattle.reader.specs.declared.cursor.Step.{Step}
 
@@ -17,8 +17,8 @@ module _ {n fault : ℕ} (f : n ≡ fault) (line : ℕ) (rest : Step) {r : Step}
 
 -- so many are the most, and so many there are
 module _ {most count : ℕ} (line : ℕ) (rest : Step) where
-  pub full : {r : Step} → most ≤ count → r ≡ refusedAt 10 line → r ≡ cond (leb most count) (refusedAt 10 line) rest
-  full h e = rw (le-leb most count h) e
+  pub full : {r : Step} → most ≤ count → r ≡ refusedAt 10 line → r ≡ cond (ltb count most) rest (refusedAt 10 line)
+  full h e = rw (le-ltb count most h) e
 
-  pub room : count < most → rest ≡ cond (leb most count) (refusedAt 10 line) rest
-  room h = rw (lt-leb most count h)
+  pub room : count < most → rest ≡ cond (ltb count most) rest (refusedAt 10 line)
+  room h = rw (lt-ltb count most h)

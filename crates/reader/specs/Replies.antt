@@ -3,7 +3,7 @@ use mathlib.Core.Path.{_≡_}
 use mathlib.Core.Bool.{false, not, cond}
 use mathlib.Core.List.{List, [], _∷_}
 use Prim.Native.Nat.{ℕ}
-use lib.Dec.{eqb, ltb, leb}
+use lib.Dec.{eqb, ltb}
 use lib.ListN.{length, drop}
 use Rattle.arith.specs.Answers.{Reply, gives, refuses, twoEnds}
 use Rattle.arith.specs.Replies.{Test, replyAfter}
@@ -29,8 +29,8 @@ stepTold (Refused r) = refuses r
 -- 4; and after it 1, 7 for a head, 2, 3, 10 for a cell, 5, 6, 10 for a sum
 abbrev pub lineTests : Line → Cursor → List Test
 lineTests (Line.Head w m) c = faultless (headFault w m) (c .line) ∷ []
-lineTests (Line.Cell I) c = faultless (cellFault (c .width) I) (c .line) ∷ testAt (not (leb 64 (c .«cell_count»))) 10 (c .line) ∷ []
-lineTests (Line.Sum t) c = faultless (sumFault (c .«cell_count») t) (c .line) ∷ testAt (not (leb 128 (c .«sum_count»))) 10 (c .line) ∷ []
+lineTests (Line.Cell I) c = faultless (cellFault (c .width) I) (c .line) ∷ testAt (ltb (c .«cell_count») 64) 10 (c .line) ∷ []
+lineTests (Line.Sum t) c = faultless (sumFault (c .«cell_count») t) (c .line) ∷ testAt (ltb (c .«sum_count») 128) 10 (c .line) ∷ []
 lineTests Line.Malformed c = testAt false 4 (c .line) ∷ []
 
 -- its fields
@@ -53,7 +53,8 @@ replyAt ahead c =
 unfoldable pub replyNext : List ℕ → Cursor → Reply ℕ
 replyNext text c = cond (ltb 8192 (length text)) (refuses (record { number = 8; place = 0 })) (replyAt (drop (c .at) text) c)
 
--- ---- what a step from a cursor promises: the reply due, and that a refused record and the end, which give no value, are stayed at
+-- ---- what a step from a cursor promises: the reply due, and that a refused record and the end are stayed at
 pub record Tells (text : List ℕ) (c : Cursor) (step : Step) (after : Cursor) : Type 0 where
   pub told : stepTold step ≡ replyNext text c
-  pub stays : stepTold step .values ≡ [] → after ≡ c
+  pub refused : (stepTold step .number ≡ 0 → ⊥) → after ≡ c
+  pub ended : step ≡ End → after ≡ c

@@ -3,7 +3,7 @@ use Prim.Native.Nat.{ℕ, zero, suc, _+_}
 use mathlib.Core.Bool.{cond}
 use mathlib.Core.List.{List, []}
 use lib.ListN.{length, take, drop}
-use lib.Dec.{eqb, ltb, leb}
+use lib.Dec.{eqb, ltb}
 use Rattle.arith.specs.declared.interval.Interval.{Interval}
 use Rattle.sheet.specs.declared.kept.Record.{Record}
 use Rattle.sheet.specs.Faults.{headFault, cellFault, sumFault}
@@ -36,16 +36,18 @@ headStep w m line c =
 unfoldable pub cellStep : Interval → ℕ → Cursor → Step
 cellStep I line c =
     cond (eqb (cellFault (c .width) I) 0)
-    (cond (leb 64 (c .«cell_count»)) (refusedAt 10 line)
-    (Cell I (record { at = c .at; line = c .line; width = c .width; «cell_count» = c .«cell_count» + 1; «sum_count» = c .«sum_count» })))
+    (cond (ltb (c .«cell_count») 64)
+    (Cell I (record { at = c .at; line = c .line; width = c .width; «cell_count» = c .«cell_count» + 1; «sum_count» = c .«sum_count» }))
+    (refusedAt 10 line))
     (refusedAt (cellFault (c .width) I) line)
 
 -- a sum, in the order of adding: 5, 6, 10
 unfoldable pub sumStep : Record → ℕ → Cursor → Step
 sumStep s line c =
     cond (eqb (sumFault (c .«cell_count») s) 0)
-    (cond (leb 128 (c .«sum_count»)) (refusedAt 10 line)
-    (Sum s (record { at = c .at; line = c .line; width = c .width; «cell_count» = c .«cell_count»; «sum_count» = c .«sum_count» + 1 })))
+    (cond (ltb (c .«sum_count») 128)
+    (Sum s (record { at = c .at; line = c .line; width = c .width; «cell_count» = c .«cell_count»; «sum_count» = c .«sum_count» + 1 }))
+    (refusedAt 10 line))
     (refusedAt (sumFault (c .«cell_count») s) line)
 
 -- ---- a line: 4, and after it the refusals of its record
@@ -100,6 +102,6 @@ cursorAfter (suc n) text = afterOf text (cursorAfter n text)
 unfoldable pub recordAt : List ℕ → Cursor → List ℕ
 recordAt text c = cond (ltb 8192 (length text)) [] (before feed (drop (c .at) text))
 
--- 01's line at a position, from 1: one more than the line feeds before it. A cursor reached from the start keeps it (`kept-line`, proofs/Counting)
+-- 01's line at a position, from 1: one more than the line feeds before it. A cursor reached from the start keeps it (`kept-line`, proofs/Placing)
 unfoldable pub lineNumber : List ℕ → ℕ → ℕ
 lineNumber text at = countOf feed (take at text) + 1

@@ -36,7 +36,7 @@ pub(crate) fn same(s: &[u8], t: &[u8]) -> bool
 }
 
 // The part before the first b, or all where there is none.
-pub(crate) fn until(s: &[u8], b: u8) -> &[u8]
+pub(crate) fn before(s: &[u8], b: u8) -> &[u8]
     ensures { λ r. ⌜ now r ≡ before b (now (s .entry)) ⌝ }
 {
     let n = find(s, b);
@@ -44,7 +44,7 @@ pub(crate) fn until(s: &[u8], b: u8) -> &[u8]
 }
 
 // The part after the first b, or nothing where there is none.
-pub(crate) fn past(s: &[u8], b: u8) -> &[u8]
+pub(crate) fn after(s: &[u8], b: u8) -> &[u8]
     ensures { λ r. ⌜ now r ≡ after b (now (s .entry)) ⌝ }
 {
     let n = find(s, b);

@@ -2,9 +2,9 @@
 ghost use mathlib.Core.Path.{_≡_};
 ghost use Rattle.reader.specs.Steps.{start, refusedAt, headStep, cellStep, sumStep, admitted, lineAfter, nextOf, past, advanceOf, cursorAfter, recordAt};
 ghost use Rattle.reader.specs.Replies.{stepTold, replyNext, Tells};
+use crate::bytes::before;
 use crate::bytes::find;
 use crate::bytes::rest;
-use crate::bytes::until;
 use crate::line::Line;
 use crate::line::parse;
 use arith::interval::Interval;
@@ -63,6 +63,7 @@ impl Cursor {
     }
 }
 
+// A refusal, with the line as its place.
 fn refuse_at(number: u64, line: u64) -> Step
     ensures { λ r. ⌜ r ≡ refusedAt number line ⌝ }
 {
@@ -161,7 +162,7 @@ fn admit(l: Line, line: u64, c: Cursor) -> Step
     }
 }
 
-// The record at the cursor, or the refusal due there. A refusal leaves the cursor where it is.
+// The record at the cursor with the cursor after it, the end of the text, or the refusal due there.
 pub fn next(text: &[u8], c: Cursor) -> Step
     ensures { λ r. ⌜ r ≡ nextOf (now (text .entry)) c ⌝ }
     ensures { λ r. ⌜ stepTold r ≡ replyNext (now (text .entry)) c ⌝ }
@@ -238,5 +239,5 @@ pub fn record_at(text: &[u8], c: Cursor) -> &[u8]
         return &text[..0];
     }
     let at = c.at;
-    until(rest(text, at), 10)
+    before(rest(text, at), 10)
 }

@@ -1,9 +1,9 @@
 // One line of a text, without its line feed: what its fields say, or that it is malformed, unknown or misplaced.
 ghost use mathlib.Core.Path.{_≡_};
 ghost use Rattle.reader.specs.Lines.{headFrom, cellFrom, sumFrom, headIn, cellIn, sumIn, lineOf};
-use crate::bytes::past;
+use crate::bytes::after;
+use crate::bytes::before;
 use crate::bytes::same;
-use crate::bytes::until;
 use crate::number::Number;
 use crate::number::numeral;
 use crate::number::pattern;
@@ -18,6 +18,7 @@ pub(crate) enum Line {
     Malformed,
 }
 
+// A head of width and pass limit; malformed where one of them is no number.
 fn head_from(w: Number, m: Number) -> Line
     ensures { λ r. ⌜ r ≡ headFrom w m ⌝ }
 {
@@ -30,6 +31,7 @@ fn head_from(w: Number, m: Number) -> Line
     Line::Head { width, limit }
 }
 
+// A cell of low and high; malformed where one of them is no pattern.
 fn cell_from(l: Number, h: Number) -> Line
     ensures { λ r. ⌜ r ≡ cellFrom l h ⌝ }
 {
@@ -42,6 +44,7 @@ fn cell_from(l: Number, h: Number) -> Line
     Line::Cell(Interval { low, high })
 }
 
+// A sum of the cell numbers of x, a, b; malformed where one of them is no number.
 fn sum_from(i: Number, j: Number, k: Number) -> Line
     ensures { λ r. ⌜ r ≡ sumFrom i j k ⌝ }
 {
@@ -61,8 +64,8 @@ fn sum_from(i: Number, j: Number, k: Number) -> Line
 fn head_in(fields: &[u8]) -> Line
     ensures { λ r. ⌜ r ≡ headIn (now (fields .entry)) ⌝ }
 {
-    let width = numeral(until(fields, 9));
-    let limit = numeral(past(fields, 9));
+    let width = numeral(before(fields, 9));
+    let limit = numeral(after(fields, 9));
     head_from(width, limit)
 }
 
@@ -70,8 +73,8 @@ fn head_in(fields: &[u8]) -> Line
 fn cell_in(width: u64, fields: &[u8]) -> Line
     ensures { λ r. ⌜ r ≡ cellIn width (now (fields .entry)) ⌝ }
 {
-    let low = pattern(width, until(fields, 9));
-    let high = pattern(width, past(fields, 9));
+    let low = pattern(width, before(fields, 9));
+    let high = pattern(width, after(fields, 9));
     cell_from(low, high)
 }
 
@@ -79,10 +82,10 @@ fn cell_in(width: u64, fields: &[u8]) -> Line
 fn sum_in(fields: &[u8]) -> Line
     ensures { λ r. ⌜ r ≡ sumIn (now (fields .entry)) ⌝ }
 {
-    let more = past(fields, 9);
-    let x = numeral(until(fields, 9));
-    let a = numeral(until(more, 9));
-    let b = numeral(past(more, 9));
+    let more = after(fields, 9);
+    let x = numeral(before(fields, 9));
+    let a = numeral(before(more, 9));
+    let b = numeral(after(more, 9));
     sum_from(x, a, b)
 }
 
@@ -90,8 +93,8 @@ fn sum_in(fields: &[u8]) -> Line
 pub(crate) fn parse(at: usize, width: u64, line: &[u8]) -> Line
     ensures { λ r. ⌜ r ≡ lineOf at width (now (line .entry)) ⌝ }
 {
-    let word = until(line, 9);
-    let fields = past(line, 9);
+    let word = before(line, 9);
+    let fields = after(line, 9);
     if at == 0 {
         if same(word, b"sheet") {
             return head_in(fields);

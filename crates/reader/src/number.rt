@@ -10,6 +10,7 @@ pub(crate) enum Number {
     Malformed,
 }
 
+// A byte as a word.
 fn wide(b: u8) -> u64
     ensures { λ r. ⌜ r ≡ b ⌝ }
 {

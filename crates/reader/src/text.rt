@@ -28,13 +28,7 @@ impl<'a> Reader<'a> {
     {
         Reader {
             text,
-            cursor: Cursor {
-                at: 0,
-                line: 1,
-                width: 0,
-                cell_count: 0,
-                sum_count: 0,
-            },
+            cursor: Cursor::new(),
         }
     }
 

@@ -15,8 +15,8 @@ returns c = rw (lt-ltb _ _ (c .before .if1 .taken))
 rest-requires : tie.Need-rest-requires
 rest-requires c κs = tt
 
-until-requires : tie.Need-until-requires
-until-requires c κs = tt
+before-requires : tie.Need-before-requires
+before-requires c κs = tt
 
 returns-2 : tie.Need-returns-2
 unfolding recordAt
@@ -24,4 +24,4 @@ returns-2 c = rw (le-ltb _ _ (c .before .before .if1 .left)) (cc)
 
 pub record-at-spec : {M : Type 1} → statement M
 record-at-spec =
-    tie.close (tie.spec slice-aggregate-result returns rest-requires until-requires returns-2)
+    tie.close (tie.spec slice-aggregate-result returns rest-requires before-requires returns-2)

@@ -5,11 +5,11 @@ use borrow.Author.Tests.{eq-eqb, ne-eqb}
 use Rattle.reader.proofs.line.parse.Statement.{statement}
 use Rattle.reader.proofs.line.parse.Tie as tie
 
-until-requires : tie.Need-until-requires
-until-requires c κs = tt
+before-requires : tie.Need-before-requires
+before-requires c κs = tt
 
-past-requires : tie.Need-past-requires
-past-requires c κs = tt
+after-requires : tie.Need-after-requires
+after-requires c κs = tt
 
 slice-aggregate-same : tie.Need-slice-aggregate-same
 slice-aggregate-same c = refl
@@ -22,11 +22,11 @@ head-in-requires c κs = tt
 
 returns : tie.Need-returns
 unfolding lineOf
-returns c = rw (eq-eqb _ _ (c .before .before .before .before .if1 .taken), ← c .before .before .before .before .before .before .until .ensures, ← c .before .before .same .ensures, c .before .if2 .taken, ← c .before .before .before .before .before .past .ensures) (c .head-in .ensures)
+returns c = rw (eq-eqb _ _ (c .before .before .before .before .if1 .taken), ← c .before .before .before .before .before .before .before2 .ensures, ← c .before .before .same .ensures, c .before .if2 .taken, ← c .before .before .before .before .before .after .ensures) (c .head-in .ensures)
 
 returns-2 : tie.Need-returns-2
 unfolding lineOf
-returns-2 c = rw (eq-eqb _ _ (c .before .before .before .if1 .taken), ← c .before .before .before .before .before .until .ensures, ← c .before .same .ensures, c .if2 .left)
+returns-2 c = rw (eq-eqb _ _ (c .before .before .before .if1 .taken), ← c .before .before .before .before .before .before2 .ensures, ← c .before .same .ensures, c .if2 .left)
 
 slice-aggregate-same-2 : tie.Need-slice-aggregate-same-2
 slice-aggregate-same-2 c = refl
@@ -39,7 +39,7 @@ cell-in-requires c κs = tt
 
 returns-3 : tie.Need-returns-3
 unfolding lineOf
-returns-3 c = rw (ne-eqb _ _ (c .before .before .before .before .if1 .left), ← c .before .before .before .before .before .before .until .ensures, ← c .before .before .same2 .ensures, c .before .if3 .taken, ← c .before .before .before .before .before .past .ensures) (c .cell-in .ensures)
+returns-3 c = rw (ne-eqb _ _ (c .before .before .before .before .if1 .left), ← c .before .before .before .before .before .before .before2 .ensures, ← c .before .before .same2 .ensures, c .before .if3 .taken, ← c .before .before .before .before .before .after .ensures) (c .cell-in .ensures)
 
 slice-aggregate-same-3 : tie.Need-slice-aggregate-same-3
 slice-aggregate-same-3 c = refl
@@ -52,18 +52,18 @@ sum-in-requires c κs = tt
 
 returns-4 : tie.Need-returns-4
 unfolding lineOf
-returns-4 c = rw (ne-eqb _ _ (c .before .before .before .before .before .before .before .if1 .left), ← c .before .before .before .before .before .before .before .before .before .until .ensures, ← c .before .before .before .before .before .same2 .ensures, c .before .before .before .before .if3 .left, ← c .before .before .same3 .ensures, c .before .if4 .taken, ← c .before .before .before .before .before .before .before .before .past .ensures) (c .sum-in .ensures)
+returns-4 c = rw (ne-eqb _ _ (c .before .before .before .before .before .before .before .if1 .left), ← c .before .before .before .before .before .before .before .before .before .before2 .ensures, ← c .before .before .before .before .before .same2 .ensures, c .before .before .before .before .if3 .left, ← c .before .before .same3 .ensures, c .before .if4 .taken, ← c .before .before .before .before .before .before .before .before .after .ensures) (c .sum-in .ensures)
 
 returns-5 : tie.Need-returns-5
 unfolding lineOf
-returns-5 c = rw (ne-eqb _ _ (c .before .before .before .before .before .before .if1 .left), ← c .before .before .before .before .before .before .before .before .until .ensures, ← c .before .before .before .before .same2 .ensures, c .before .before .before .if3 .left, ← c .before .same3 .ensures, c .if4 .left)
+returns-5 c = rw (ne-eqb _ _ (c .before .before .before .before .before .before .if1 .left), ← c .before .before .before .before .before .before .before .before .before2 .ensures, ← c .before .before .before .before .same2 .ensures, c .before .before .before .if3 .left, ← c .before .same3 .ensures, c .if4 .left)
 
 pub parse-spec : {M : Type 1} → statement M
 parse-spec =
     tie.close
     (tie.spec
-    until-requires
-    past-requires
+    before-requires
+    after-requires
     slice-aggregate-same
     same-requires
     head-in-requires

@@ -1,9 +1,9 @@
--- `reader::bytes::until` meets its contract. Assumes nothing.
+-- `reader::bytes::before` meets its contract. Assumes nothing.
 use lib.ListN.{length-take}
 use Rattle.reader.specs.Bytes.{before}
 use native.Mathlib.Omega.{arith}
-use Rattle.reader.proofs.bytes.until.Statement.{statement}
-use Rattle.reader.proofs.bytes.until.Tie as tie
+use Rattle.reader.proofs.bytes.before.Statement.{statement}
+use Rattle.reader.proofs.bytes.before.Tie as tie
 
 find-requires : tie.Need-find-requires
 find-requires c κs = tt
@@ -15,5 +15,5 @@ returns : tie.Need-returns
 unfolding before
 returns c = rw (c .before .find .ensures .0)
 
-pub until-spec : {M : Type 1} → statement M
-until-spec = tie.close (tie.spec find-requires slice-aggregate-result returns)
+pub before-spec : {M : Type 1} → statement M
+before-spec = tie.close (tie.spec find-requires slice-aggregate-result returns)

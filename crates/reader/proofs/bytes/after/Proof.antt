@@ -1,12 +1,12 @@
--- `reader::bytes::past` meets its contract. Assumes nothing.
+-- `reader::bytes::after` meets its contract. Assumes nothing.
 use lib.ListN.{length}
 use Prim.Native.Nat.{_+_, _≤_}
 use Rattle.reader.proofs.Searching.{none, tail}
 use Rattle.reader.specs.Bytes.{after}
 use borrow.Author.Needs.{needs}
 use native.Mathlib.Omega.{arith}
-use Rattle.reader.proofs.bytes.past.Statement.{statement}
-use Rattle.reader.proofs.bytes.past.Tie as tie
+use Rattle.reader.proofs.bytes.after.Statement.{statement}
+use Rattle.reader.proofs.bytes.after.Tie as tie
 
 find-requires : tie.Need-find-requires
 find-requires c κs = tt
@@ -34,8 +34,8 @@ returns-2 : tie.Need-returns-2
 unfolding after
 returns-2 c = let h : length (c .before .before .before .before .args .s .now) ≤ c .before .before .find .result + 1 = omega arith in rw (← c .before .before .find .ensures .0, none)
 
-pub past-spec : {M : Type 1} → statement M
-past-spec =
+pub after-spec : {M : Type 1} → statement M
+after-spec =
     tie.close
     (tie.spec
     find-requires
