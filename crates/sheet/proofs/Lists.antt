@@ -121,6 +121,12 @@ module _ (width limit : ℕ) (ys : List Interval) (zs : List Record) where
         let t = told-by ended in
         (ap outcomeNumber w ∙ t .0, ap outcomeValues w ∙ t .1)
 
+    lists-refused : (q : Refusal) → tested ≡ Refused q → (outcomeNumber o ≡ q .number) × (outcomeValues o ≡ q .place ∷ [])
+    unfolding narrowListsOf
+    lists-refused q d =
+        let w : o ≡ lentAfter (Refused q) width limit ys zs .outcome = e ∙ ap (λ (a : Answer). lentAfter a width limit ys zs .outcome) d in
+        (ap outcomeNumber w, ap outcomeValues w)
+
     lists-left : Leaves o after
     unfolding narrowListsOf
     lists-left a b = f ∙ left-after tested (λ z. a (ap outcomeNumber e ∙ z)) (λ z. b (ap outcomeNumber e ∙ z))
@@ -184,6 +190,7 @@ module _ (width limit : ℕ) (ys : List Interval) (zs : List Record) where
           outcome = same .outcome;
           cells = same .cells;
           told = lists-told _ _ (same .outcome) (same .cells);
+          refused = lists-refused _ _ (same .outcome) (same .cells);
           kept = lists-left _ _ (same .outcome) (same .cells);
           demand3 = subst (λ (t : Type 0). t) (λ i. Demand3 (fractionOf width) (exponentOf width) (used-sums i) (boxOf width (used-cells i)) (boxOf width (last i)) (outcomeNumber (r .outcome))) (h .demand3);
         }
@@ -202,6 +209,7 @@ module _ (width limit : ℕ) (ys : List Interval) (zs : List Record) where
           outcome = o;
           cells = c;
           told = lists-told _ _ o c;
+          refused = lists-refused _ _ o c;
           kept = lists-left _ _ o c;
           demand3 = record { settled = λ z. absurd (omega (arith, n, z)); stopped = λ z. absurd (omega (arith, n, z)); none = λ z box k. absurd (omega (arith, n, z)) };
         }

@@ -2,6 +2,7 @@
 use mathlib.Core.Path.{_≡_}
 use mathlib.Core.List.{List, [], _∷_}
 use Prim.Native.Nat.{ℕ}
+use Rattle.arith.specs.declared.refusal.Refusal.{Refusal}
 use Rattle.sheet.specs.declared.kept.Sheet.{Sheet}
 use Rattle.sheet.specs.declared.kept.Answer.{Answer}
 use Rattle.sheet.specs.declared.kept.Answer.the-variants as Answer
@@ -48,10 +49,11 @@ runAfter (Answer.Refused r) s = record { sheet = s; outcome = Refused r }
 unfoldable pub narrowSheetOf : Sheet → Run
 narrowSheetOf s = runAfter (testOf s) s
 
--- what the call promises: the answer; where the sheet passes its test, the run's number and values; that every refusal but 12 leaves the sheet as it came; and demand 3 on the cells first given
+-- what the call promises: the answer; where the sheet passes its test, the run's number and values, else the refusal's number and place; that every refusal but 12 leaves the sheet as it came; and demand 3 on the cells first given
 pub record Narrows (s : Sheet) (r : Run) : Type 0 where
   pub answer : r ≡ narrowSheetOf s
   pub told : testOf s ≡ Answer.Done → (outcomeNumber (r .outcome) ≡ endNumber (endOf s)) × (outcomeValues (r .outcome) ≡ endValues (endOf s))
+  pub refused : (t : Refusal) → testOf s ≡ Answer.Refused t → (outcomeNumber (r .outcome) ≡ t .number) × (outcomeValues (r .outcome) ≡ t .place ∷ [])
   pub kept : (outcomeNumber (r .outcome) ≡ 0 → ⊥) → (outcomeNumber (r .outcome) ≡ 12 → ⊥) → r .sheet ≡ s
   pub demand3 :
       Demand3 (fractionOf (s .width)) (exponentOf (s .width)) (usedSums s)
