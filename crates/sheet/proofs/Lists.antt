@@ -2,18 +2,15 @@
 -- Assumes nothing.
 use mathlib.Core.Path.{_≡_, refl, sym, ap, subst, _∙_}
 use mathlib.Core.Logic.{inl, inr}
-use mathlib.Core.Bool.{Bool, true, false, cond}
 use mathlib.Core.List.{List, [], _∷_, _++_, append-nil}
 use Prim.Native.Nat.{ℕ, zero, suc, _-_, _<_, _≤_, min}
 use native.Mathlib.Nat.{not-suc-le-zero, le-of-suc-le-suc}
 use native.Mathlib.Omega.{arith}
-use lib.Dec.{ltb}
 use lib.ListN.{length, getD, set, take, drop, replicate, length-map, length-replicate}
 use lib.Seq.{take-length, drop-length, take-at}
 use Rattle.ladder.proofs.Cases.{le-or-lt}
 use Rattle.arith.specs.declared.interval.Interval.{Interval}
 use Rattle.arith.specs.declared.refusal.Refusal.{Refusal}
-use Rattle.arith.specs.Formats.{isKnown}
 use Rattle.sheet.specs.declared.kept.Record.{Record}
 use Rattle.sheet.specs.declared.kept.Sheet.{Sheet}
 use Rattle.sheet.specs.declared.kept.Answer.{Answer}
@@ -32,6 +29,7 @@ use Rattle.sheet.specs.Loading.{puts, storedCells, storedCount, sheetOf}
 use Rattle.sheet.specs.Lists.{Lent, endOfLists, testOfLists, lentBy, lentAfter, narrowListsOf, NarrowsLists}
 use Rattle.sheet.proofs.Answers.{test-head, test-many-cells, test-many-sums}
 use Rattle.sheet.proofs.Filling.{length-filled}
+use Rattle.sheet.proofs.Numbers.{head-small}
 use Rattle.sheet.proofs.Demand.{pass-shrinks, run-all}
 
 -- ---- members put one by one
@@ -66,17 +64,6 @@ run-sized f e sums limit first =
     (λ p c q. q)
     (λ p k c q h. tt)
     (limit - 1) 1 first refl
-
--- ---- a head's number
-head-small : (width limit : ℕ) → headFault width limit ≤ 7
-unfolding headFault
-head-small width limit = small (isKnown width) (ltb limit 1) (ltb 65535 limit)
-  where
-    small : (p q r : Bool) → cond p (cond q 7 (cond r 7 0)) 1 ≤ 7
-    small true true r = omega arith
-    small true false true = omega arith
-    small true false false = omega arith
-    small false q r = omega arith
 
 -- ---- the answers
 module _ (width limit : ℕ) (ys : List Interval) (zs : List Record) where

@@ -66,7 +66,7 @@ use Rattle.sheet.proofs.passes.Outcome.Laws as O′
 use Rattle.sheet.proofs.Lists.{lists-narrow}
 use Rattle.sheet.proofs.Shared.{Kept, lends-shared, shared-back}
 use Rattle.sheet.proofs.Walks.{contractOf, calls-fixed, calls-is}
-use Rattle.sheet.proofs.Loading.{mach, Fine, word}
+use Rattle.sheet.proofs.Loading.{mach, Fine, word, typed}
 use Rattle.sheet.proofs.lent.count_lists as count-lists
 use Rattle.sheet.proofs.lent.count_lists.Symbol as count-lists-def
 use Rattle.sheet.proofs.lent.count_lists.Symbol.{name as #sheet·lent·count-lists}
@@ -256,9 +256,6 @@ module _ {M : Type 1} (𝓤 : URA M) (H : Heap 𝓤) (A : Atoms 𝓤) (W : Given
   back-fits : back < 2 ^ 64
   back-fits = omega (arith, back-64)
 
-  typed : (d : Sheet) (w : Val) → Is S.the-row d (w ∷ []) → Holds (hasTy S′.mir w) × WT w
-  typed d w is = LL.lawful S.the-type S′.the-laws 𝓤 H A W .typed d _ is .0
-
   typed-run : (d : Run) (w : Val) → Is N.the-row d (w ∷ []) → Holds (hasTy N′.mir w) × WT w
   typed-run d w is = LL.lawful N.the-type N′.the-laws 𝓤 H A W .typed d _ is .0
 
@@ -390,7 +387,7 @@ module _ {M : Type 1} (𝓤 : URA M) (H : Heap 𝓤) (A : Atoms 𝓤) (W : Given
           -- [what sums owns, twice; what cells owns; its token; the token of sums; _19; …]
           move ! (4 ∷ 0 ∷ []) $ use2 W (raw (LoadSums 𝓤 H A mem run .pre to-sums)) (goes-sums fine) $
           calls-is ! fm load-sums.ended (load-sums.clauses 𝓤 H A mem run) known-load-sums to-sums mach (LL.tells S.the-type S′.the-laws) S₂ (λ r e. id⊢ 𝓤 _) (and-then ! (loads ! (from ! (stop !)) (look ! 34 refl)) (and-then ! (loads ! (from ! (stop !)) (look ! 24 refl)) (and-then ! (loads ! (from ! (stop !)) (look ! 22 refl)) (no-more !)))) (λ fine₂. use1 W Tok′ (id⊢ 𝓤 _) $
-          land ! (from ! (stop !)) (init ! 20 refl (typed S₂ _ fine₂)) $
+          land ! (from ! (stop !)) (init ! 20 refl (typed 𝓤 H A W S₂ _ fine₂)) $
           -- [the token of sums; what sums owns; what cells owns; its token; _19; …]
           move ! (2 ∷ 3 ∷ 0 ∷ 1 ∷ []) $ narrows fine₂)
 
@@ -404,7 +401,7 @@ module _ {M : Type 1} (𝓤 : URA M) (H : Heap 𝓤) (A : Atoms 𝓤) (W : Given
           -- [the lent cells; what is kept of them; the token of ν; the token of sums; what sums owns; _19; …]
           move ! (2 ∷ 0 ∷ []) $ use2 W (raw (LoadCells 𝓤 H A mem run .pre (to-cells ν δ))) (goes-cells ν δ fine) $
           calls-is ! fm load-cells.ended (load-cells.clauses 𝓤 H A mem run) known-load-cells (to-cells ν δ) mach (LL.tells S.the-type S′.the-laws) S₁ (λ r e. id⊢ 𝓤 _) (and-then ! (loads ! (from ! (stop !)) (look ! 10 refl)) (and-then ! (loads ! (from ! (stop !)) (look ! 26 refl)) (and-then ! (loads ! (from ! (stop !)) (look ! 28 refl)) (no-more !)))) (λ fine₁. use1 W (‵ (flft (ν ∷ []) fullShare) ⊛ ‵ ftrue) (id⊢ 𝓤 _) $
-          land ! (from ! (stop !)) (init ! 22 refl (typed S₁ _ fine₁)) $
+          land ! (from ! (stop !)) (init ! 22 refl (typed 𝓤 H A W S₁ _ fine₁)) $
           -- the lifetime is ended, and the cells come back
           split ! $ lft-end ! tt $ move ! (0 ∷ 2 ∷ []) $
           use2 W (later (‵ Mut ⊛ ‵ (flft κ q))) (shared-back T.the-row κ (ν ∷ []) q γ b o 𝓤 H A W (named 0) (named 0) ys gn) $ await ! tt $ split ! $
@@ -418,7 +415,7 @@ module _ {M : Type 1} (𝓤 : URA M) (H : Heap 𝓤) (A : Atoms 𝓤) (W : Given
           assigns ! (of-opd ! (loads ! (from ! (fld ! refl (stop !))) (look-in ! 34 (sub ! 1 refl (whole !))))) (from ! (stop !)) (init ! 30 refl (tt, record { fits = gm .0 })) $
           use0 W (raw (CountLists 𝓤 H A mem run .pre to-count)) (goes-count) $
           calls-is ! fm count-lists.ended (count-lists.clauses 𝓤 H A mem run) known-count-lists to-count mach (LL.tells S.the-type S′.the-laws) S₀ (λ r e. id⊢ 𝓤 _) (and-then ! (loads ! (from ! (stop !)) (look ! 41 refl)) (and-then ! (loads ! (from ! (stop !)) (look ! 39 refl)) (and-then ! (loads ! (from ! (stop !)) (look ! 33 refl)) (and-then ! (loads ! (from ! (stop !)) (look ! 31 refl)) (no-more !))))) (λ fine. drop ! $
-          land ! (from ! (stop !)) (init ! 28 refl (typed S₀ _ fine)) $
+          land ! (from ! (stop !)) (init ! 28 refl (typed 𝓤 H A W S₀ _ fine)) $
           use0 W (raw (Least 𝓤 H A mem run .pre (to-least (length ys) 64))) (goes-least (length ys) 64 (gn .0) (lit< tt)) $
           calls-is ! fm least.ended (least.clauses 𝓤 H A mem run) known-least (to-least (length ys) 64) num (uint-tells w64) k (λ r e. id⊢ 𝓤 _) (and-then ! (loads ! (from ! (stop !)) (look ! 33 refl)) (and-then ! (lit ! tt) (no-more !))) (λ is₁. drop ! $
           land ! (from ! (stop !)) (init ! 26 refl (typed-num k _ is₁)) $
