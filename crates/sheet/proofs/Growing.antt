@@ -16,7 +16,7 @@ use Rattle.sheet.specs.declared.kept.Answer.the-variants.{Done}
 use Rattle.sheet.specs.declared.kept.Kept.{Kept}
 use Rattle.sheet.specs.Cells.{canonicalCell}
 use Rattle.sheet.specs.Faults.{headFault, cellFault, sumFault}
-use Rattle.sheet.specs.Sheets.{noCell, noSum, blank, usedCells, usedSums, tidied, firstFault, testOf, withCell, withSum, openOf, addCellOf, addSumOf}
+use Rattle.sheet.specs.Sheets.{noCell, noSum, blank, usedCells, usedSums, tidied, firstFault, testOf, Sound, withCell, withSum, openOf, addCellOf, addSumOf}
 use Rattle.sheet.proofs.Firsts.{faultless-at, none-found}
 use Rattle.sheet.proofs.Filling.{length-filled}
 use Rattle.sheet.proofs.Answers.{passed, passes-test, opened, added}
@@ -25,13 +25,7 @@ use Rattle.sheet.proofs.Sums.{sum-more}
 use Rattle.sheet.proofs.Places.{getD-under}
 use Rattle.sheet.proofs.Tidied.{used, named, tidied-sum}
 
--- a sheet with all its places that passes the test
-pub record Sound (s : Sheet) : Type 0 where
-  pub cells-long : length (s .cells) ≡ 64
-  pub sums-long : length (s .sums) ≡ 128
-  pub passes : testOf s ≡ Done
-
--- by its members: what the test asks of each
+-- a sound sheet by its members: what the test asks of each
 record Good (s : Sheet) : Type 0 where
   cells-long : length (s .cells) ≡ 64
   sums-long : length (s .sums) ≡ 128
