@@ -15,11 +15,11 @@ use Rattle.sheet.specs.declared.passes.Outcome.the-variants.{NoTriple, R
 use Rattle.sheet.specs.declared.passes.Halted.{Halted}
 use Rattle.sheet.specs.declared.narrowing.Run.{Run}
 use Rattle.sheet.specs.Cells.{fractionOf, exponentOf, boxOf}
-use Rattle.sheet.specs.Sheets.{noSum, usedCells, usedSums, withCells, tidied, testOf}
+use Rattle.sheet.specs.Sheets.{noSum, places, usedCells, usedSums, tidied, withCells, testOf}
 use Rattle.sheet.specs.Boxes.{Box, IsBox, Names}
 use Rattle.sheet.specs.Runs.{Ended, settled, stopped, noTriple, lastBox, endNumber, endValues}
-use Rattle.sheet.specs.Steps.{places, endOf, EndsAs}
-use Rattle.sheet.specs.Narrowings.{outcomeNumber, outcomeValues, withBox, ranOn, runAfter, narrowSheetOf, Narrows}
+use Rattle.sheet.specs.Loops.{EndsAs}
+use Rattle.sheet.specs.Narrowings.{outcomeNumber, outcomeValues, endOf, withBox, ranOn, runAfter, narrowSheetOf, Narrows}
 use Rattle.sheet.proofs.Demand.{AllNames, run-box, run-demand3}
 use Rattle.sheet.proofs.Numbers.{test-number}
 use Rattle.sheet.proofs.Places.{box-found}

@@ -18,13 +18,12 @@ use Rattle.sheet.specs.declared.kept.Answer.the-variants.{Done, Refused}
 use Rattle.sheet.specs.declared.passes.Outcome.{Outcome}
 use Rattle.sheet.specs.declared.narrowing.Run.{Run}
 use Rattle.sheet.specs.Faults.{headFault}
-use Rattle.sheet.specs.Sheets.{noCell, noSum, usedCells, usedSums, tidied, testLists, testOf}
+use Rattle.sheet.specs.Sheets.{noCell, noSum, places, usedCells, usedSums, tidied, testLists, testOf}
 use Rattle.sheet.specs.Boxes.{Box}
 use Rattle.sheet.specs.Runs.{Ended, settled, stopped, noTriple, run, endNumber, endValues}
 use Rattle.sheet.specs.Consistency.{Demand3}
 use Rattle.sheet.specs.Cells.{fractionOf, exponentOf, boxOf, cellsOf}
-use Rattle.sheet.specs.Steps.{places, endOf}
-use Rattle.sheet.specs.Narrowings.{outcomeNumber, outcomeValues, ranOn, runAfter, narrowSheetOf, Narrows}
+use Rattle.sheet.specs.Narrowings.{outcomeNumber, outcomeValues, endOf, ranOn, runAfter, narrowSheetOf, Narrows}
 use Rattle.sheet.specs.Loading.{puts, storedCells, storedCount, sheetOf}
 use Rattle.sheet.specs.Lists.{Lent, endOfLists, testOfLists, lentBy, lentAfter, narrowListsOf, NarrowsLists}
 use Rattle.sheet.proofs.Answers.{test-head, test-many-cells, test-many-sums}

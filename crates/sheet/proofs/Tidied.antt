@@ -17,10 +17,11 @@ use Rattle.sheet.specs.declared.kept.Sheet.{Sheet}
 use Rattle.sheet.specs.declared.kept.Answer.the-variants.{Done}
 use Rattle.sheet.specs.Cells.{fractionOf, exponentOf, ordinalsOf, patternsOf, boxOf}
 use Rattle.sheet.specs.Faults.{headFault, cellFault, sumFault}
-use Rattle.sheet.specs.Sheets.{noCell, noSum, filled, usedCells, usedSums, tidied, testOf}
+use Rattle.sheet.specs.Sheets.{noCell, noSum, filled, places, usedCells, usedSums, tidied, testOf}
 use Rattle.sheet.specs.Boxes.{Box, at, Proper, IsBox, Names}
 use Rattle.sheet.specs.Runs.{run}
-use Rattle.sheet.specs.Steps.{places, boxIn, Shows, endOf, Ready}
+use Rattle.sheet.specs.Loops.{boxIn, Shows, Ready}
+use Rattle.sheet.specs.Narrowings.{endOf}
 use Rattle.sheet.proofs.Answers.{Passed, passed}
 use Rattle.sheet.proofs.Firsts.{faultless-at}
 use Rattle.sheet.proofs.Cells.{fault-free}

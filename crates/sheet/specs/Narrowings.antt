@@ -9,12 +9,11 @@ use Rattle.sheet.specs.declared.kept.Answer.the-variants as Answer
 use Rattle.sheet.specs.declared.passes.Outcome.{Outcome}
 use Rattle.sheet.specs.declared.passes.Outcome.the-variants.{Settled, NoTriple, Stopped, Refused}
 use Rattle.sheet.specs.declared.narrowing.Run.{Run}
-use Rattle.sheet.specs.Sheets.{usedCells, usedSums, withCells, tidied, testOf}
+use Rattle.sheet.specs.Sheets.{places, usedCells, usedSums, tidied, withCells, testOf}
 use Rattle.sheet.specs.Boxes.{Box}
-use Rattle.sheet.specs.Runs.{Ended, settled, stopped, noTriple, endNumber, endValues}
+use Rattle.sheet.specs.Runs.{Ended, settled, stopped, noTriple, run, endNumber, endValues}
 use Rattle.sheet.specs.Consistency.{Demand3}
 use Rattle.sheet.specs.Cells.{fractionOf, exponentOf, boxOf}
-use Rattle.sheet.specs.Steps.{places, endOf}
 
 -- 01's number of each case: 0 where nothing is refused
 abbrev pub outcomeNumber : Outcome → ℕ
@@ -29,6 +28,10 @@ outcomeValues (Settled passes) = passes ∷ []
 outcomeValues (NoTriple pass sum) = pass ∷ sum ∷ []
 outcomeValues (Stopped passes) = passes ∷ []
 outcomeValues (Refused r) = r .place ∷ []
+
+-- the run of a sheet, from the cells in use
+abbrev pub endOf : Sheet → Ended
+endOf s = run (fractionOf (s .width)) (exponentOf (s .width)) (usedSums s) (s .limit) (boxOf (s .width) (usedCells s))
 
 -- the sheet with a box in its cells, each end in its one pattern, unused places zero
 abbrev pub withBox : Sheet → Box → Sheet

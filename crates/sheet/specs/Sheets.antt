@@ -11,7 +11,8 @@ use Rattle.sheet.specs.declared.kept.Sheet.{Sheet}
 use Rattle.sheet.specs.declared.kept.Answer.{Answer}
 use Rattle.sheet.specs.declared.kept.Answer.the-variants.{Done, Refused}
 use Rattle.sheet.specs.declared.kept.Kept.{Kept}
-use Rattle.sheet.specs.Cells.{canonicalCell}
+use Rattle.sheet.specs.Boxes.{Box}
+use Rattle.sheet.specs.Cells.{canonicalCell, cellsOf}
 use Rattle.sheet.specs.Faults.{headFault, cellFault, sumFault}
 
 -- ---- places
@@ -26,6 +27,10 @@ noSum = record { x = 0; a = 0; b = 0 }
 -- so many places, of which the first hold a list and the others v
 abbrev pub filled : {A : Type 0} → ℕ → A → List A → ℕ → List A
 filled places v l n = l ++ replicate (places - n) v
+
+-- the 64 places with the n cells of a box, the others zero
+abbrev pub places : ℕ → ℕ → Box → List Interval
+places width n box = filled 64 noCell (cellsOf width box) n
 
 -- a sheet with nothing in use
 abbrev pub blank : ℕ → ℕ → Sheet

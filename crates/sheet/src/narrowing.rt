@@ -1,7 +1,7 @@
 // Narrowing a kept sheet.
 ghost use mathlib.Core.Path.{_≡_};
-ghost use Rattle.sheet.specs.Steps.{EndsAs, endOf};
-ghost use Rattle.sheet.specs.Narrowings.{Narrows, ranOn};
+ghost use Rattle.sheet.specs.Loops.{EndsAs};
+ghost use Rattle.sheet.specs.Narrowings.{endOf, ranOn, Narrows};
 ghost use Rattle.sheet.specs.Sheets.{tidied, withCells};
 use crate::kept::Answer;
 use crate::kept::Sheet;
