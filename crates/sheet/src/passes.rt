@@ -1,4 +1,4 @@
-// The run: passes around sums, from the cells first given until a pass moves no end.
+// The run: passes around sums, from the cells first given until a pass moves no end, a sum has no triple, or the pass limit is reached.
 ghost use Prim.Native.Nat.{_≤_};
 ghost use lib.ListN.{take};
 ghost use Rattle.sheet.specs.Loops.{Compares, Ready, EndsAs};
