@@ -52,7 +52,7 @@ fn around(width: u64, w: u64) -> Interval {
     }
 }
 
-// An interval: around zero, one float, or in one case of 128 a faulty one.
+// An interval: around zero, one float, or in two cases of 128 a faulty one.
 fn cell_of(width: u64, calm: bool, w: u64) -> Interval {
     let wide = around(width, w);
     if calm {
@@ -73,7 +73,7 @@ fn cell_of(width: u64, calm: bool, w: u64) -> Interval {
     }
 }
 
-// A sum over n cells: one cell of each third, or in one case of 128 a faulty one.
+// A sum over n cells: one cell of each third, in some cases x and b exchanged, in two of 128 a faulty one; 0 1 2 where there are fewer than three cells.
 fn sum_of(n: u64, calm: bool, w: u64) -> Record {
     let k = n % 67 / 3;
     if k == 0 {

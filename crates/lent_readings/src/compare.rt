@@ -7,6 +7,8 @@ use crate::cases::make_cells;
 use crate::cases::make_sums;
 use crate::cases::next_word;
 use crate::lending::lend;
+use crate::reply::equal;
+use crate::reply::reply_of;
 use crate::tally::Tally;
 use crate::tally::count_outcome;
 use crate::tally::count_verdict;
@@ -19,48 +21,6 @@ use sheet::passes::Outcome;
 
 // How many cases are compared.
 const CASES: u64 = 670;
-
-// An outcome as numbers: which case, and its values.
-struct Reply {
-    kind: u64,
-    first: u64,
-    second: u64,
-}
-
-fn reply_of(outcome: Outcome) -> Reply {
-    match outcome {
-        Outcome::Settled { passes } => Reply {
-            kind: 0,
-            first: passes,
-            second: 0,
-        },
-        Outcome::NoTriple { pass, sum } => Reply {
-            kind: 11,
-            first: pass,
-            second: sum,
-        },
-        Outcome::Stopped { passes } => Reply {
-            kind: 12,
-            first: passes,
-            second: 0,
-        },
-        Outcome::Refused(r) => Reply {
-            kind: 13,
-            first: r.number,
-            second: r.place,
-        },
-    }
-}
-
-fn equal(r: Reply, s: Reply) -> bool {
-    if r.kind != s.kind {
-        return false;
-    }
-    if r.first != s.first {
-        return false;
-    }
-    r.second == s.second
-}
 
 // Whether a run that ended so has stored its box.
 fn stores(outcome: Outcome) -> bool {
@@ -86,11 +46,8 @@ fn expected(stored: bool, n: usize, i: usize, given: Interval, kept: [Interval; 
     kept[i]
 }
 
-fn same(p: Interval, q: Interval) -> bool {
-    if p.low != q.low {
-        return false;
-    }
-    p.high == q.high
+pub(crate) fn same(p: Interval, q: Interval) -> bool {
+    (p.low == q.low) & (p.high == q.high)
 }
 
 // Whether every cell of the array is as it should be.

@@ -1,9 +1,13 @@
-// Test program: lent lists of many lengths, each beside the kept sheet of the same cells and sums. What it writes is held to the file `stdout`.
+// Test program: 01's sheets as lent lists, a line each, and lent lists of many lengths, each beside the kept sheet of the same cells and sums. What it writes is held to the file `stdout`.
 mod cases;
 mod compare;
 mod lending;
+mod print;
+mod reply;
+mod sheets;
 mod tally;
 
 fn main() {
+    sheets::read_sheets();
     compare::compare_lists();
 }

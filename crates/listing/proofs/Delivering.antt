@@ -18,8 +18,7 @@ use Rattle.sheet.specs.declared.passes.Outcome.{Outcome}
 use Rattle.sheet.specs.declared.passes.Outcome.the-variants as Outcome
 use Rattle.sheet.specs.Sheets.{testOf}
 use Rattle.sheet.specs.Runs.{Ended, settled, stopped, noTriple}
-use Rattle.sheet.specs.Steps.{endOf}
-use Rattle.sheet.specs.Narrowings.{ranOn, runAfter, narrowSheetOf}
+use Rattle.sheet.specs.Narrowings.{endOf, ranOn, runAfter, narrowSheetOf}
 use Rattle.sheet.specs.Replies.{sheetTests}
 use Rattle.sheet.proofs.Replies.{sheet-after}
 use Rattle.listing.specs.Listings.{listingOf}

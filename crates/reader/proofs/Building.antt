@@ -7,7 +7,7 @@ use lib.ListN.{length, set, replicate, length-append, length-map}
 use lib.Seq.{take-at, set-at}
 use borrow.Author.Tests.{lt-ltb}
 use Rattle.arith.specs.declared.interval.Interval.{Interval}
-use Rattle.arith.proofs.Valid.{valid-bounded, written-span, written-valid}
+use Rattle.arith.proofs.Valid.{valid-bounded, written-span}
 use Rattle.sheet.specs.declared.kept.Record.{Record}
 use Rattle.sheet.specs.declared.kept.Sheet.{Sheet}
 use Rattle.sheet.specs.declared.kept.Answer.the-variants.{Done}
@@ -16,7 +16,7 @@ use Rattle.sheet.specs.Faults.{headFault, cellFault, sumFault}
 use Rattle.sheet.specs.Sheets.{noCell, noSum, filled, usedCells, usedSums, tidied, withCell, withSum, firstFault, testOf, addCellOf, addSumOf}
 use Rattle.sheet.proofs.Answers.{passes-test, added}
 use Rattle.sheet.proofs.Firsts.{faultless, none-found}
-use Rattle.sheet.proofs.Cells.{fault-free, no-fault}
+use Rattle.sheet.proofs.Cells.{fault-free, canonical-faultless}
 
 -- ---- lists without a fault
 abbrev pub Faultless : {A : Type 0} → (A → ℕ) → List A → Type 0
@@ -50,18 +50,12 @@ module _ {A : Type 0} (fault : A → ℕ) where
 
 -- ---- canonical patterns
 module _ (w : ℕ) where
-  canonical-faultless : (I : Interval) → cellFault w I ≡ 0 → cellFault w (canonicalCell w I) ≡ 0
-  canonical-faultless I z =
-      let v = fault-free w I z in
-      let b = valid-bounded w I v in
-      no-fault w (canonicalCell w I) (written-valid w (ordinalsOf w I) (b .0) (v .known) (b .1))
-
   canonical-again : (I : Interval) → cellFault w I ≡ 0 → canonicalCell w (canonicalCell w I) ≡ canonicalCell w I
   canonical-again I z = ap (patternsOf w) (written-span w (ordinalsOf w I) (valid-bounded w I (fault-free w I z) .0))
 
   cells-faultless : (cs : List Interval) → Faultless (cellFault w) cs → Faultless (cellFault w) (map (canonicalCell w) cs)
   cells-faultless [] f = tt
-  cells-faultless (I ∷ cs) f = (canonical-faultless I (f .0), cells-faultless cs (f .1))
+  cells-faultless (I ∷ cs) f = (canonical-faultless w I (f .0), cells-faultless cs (f .1))
 
   cells-again : (cs : List Interval) → Faultless (cellFault w) cs → map (canonicalCell w) (map (canonicalCell w) cs) ≡ map (canonicalCell w) cs
   cells-again [] f = refl

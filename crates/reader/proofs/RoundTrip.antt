@@ -1,20 +1,23 @@
 -- The text of a sheet reads back as that sheet. Rests on Building, Records and Walking.
 use mathlib.Core.Path.{_≡_, refl, sym, ap, _∙_}
-use mathlib.Core.Bool.{Bool, true, false, cond, _||_}
+use mathlib.Core.Bool.{Bool, true, false, _||_, true≢false}
 use mathlib.Core.List.{List, [], _∷_, _++_, append-assoc, append-nil}
 use Prim.Native.Nat.{ℕ, suc, _+_, _-_, _*_, _≤_, _<_}
 use native.Mathlib.Omega.{arith}
-use lib.Dec.{leb, ltb, eqb}
+use lib.Dec.{eqb}
 use lib.ListN.{length, length-append, drop-of-length-le}
 use lib.Seq.{length-take-le}
-use borrow.Author.Tests.{eq-eqb, ne-eqb, le-ltb, lt-ltb, leb-false, ltb-false, eqb-true}
+use borrow.Author.Tests.{eq-eqb, ne-eqb, le-ltb, lt-ltb, eqb-true}
 use Rattle.arith.specs.declared.interval.Interval.{Interval}
+use Rattle.arith.specs.Formats.{isKnown}
 use Rattle.sheet.specs.declared.kept.Record.{Record}
 use Rattle.sheet.specs.declared.kept.Sheet.{Sheet}
 use Rattle.sheet.specs.declared.kept.Answer.the-variants.{Done}
 use Rattle.sheet.specs.Faults.{headFault, cellFault, sumFault}
 use Rattle.sheet.specs.Sheets.{noCell, noSum, blank, usedCells, usedSums, tidied, testOf}
 use Rattle.sheet.proofs.Answers.{opened, passed}
+use Rattle.sheet.proofs.Sums.{names-of}
+use Rattle.sheet.proofs.Tidied.{good-head}
 use Rattle.reader.specs.Bytes.{indexOf, countOf}
 use Rattle.reader.specs.Lines.{feed}
 use Rattle.reader.specs.Steps.{start, headStep, cellStep, sumStep, admitted, nextOf}
@@ -26,40 +29,18 @@ use Rattle.reader.proofs.Records.{cell-small, Few, head-back, cell-back
 use Rattle.reader.proofs.Walking.{after, next-line, walk}
 
 -- ---- what the faults say of numbers
-pub record GoodHead (w m : ℕ) : Type 0 where
-  pub width : w < 100000
-  pub limit : m < 100000
-
-head-good : (w m : ℕ) → headFault w m ≡ 0 → GoodHead w m
-unfolding headFault
-head-good w m = go (eqb w 32) refl (eqb w 64) refl (ltb m 1) (ltb 65535 m) refl
+width-small : (w : ℕ) → isKnown w ≡ true → w < 100000
+width-small w = go (eqb w 32) refl (eqb w 64) refl
   where
-    go :
-        (p : Bool) → eqb w 32 ≡ p → (q : Bool) → eqb w 64 ≡ q → (r s : Bool) → ltb 65535 m ≡ s →
-        _≡_ {A = ℕ} (cond (p || q) (cond r 7 (cond s 7 0)) 1) 0 → GoodHead w m
-    go false e false f r s g z = absurd (omega arith)
-    go false e true f true s g z = absurd (omega arith)
-    go false e true f false true g z = absurd (omega arith)
-    go false e true f false false g z = record { width = omega (arith, eqb-true w 64 f); limit = omega (arith, ltb-false 65535 m g) }
-    go true e q f true s g z = absurd (omega arith)
-    go true e q f false true g z = absurd (omega arith)
-    go true e q f false false g z = record { width = omega (arith, eqb-true w 32 e); limit = omega (arith, ltb-false 65535 m g) }
+    go : (p : Bool) → eqb w 32 ≡ p → (q : Bool) → eqb w 64 ≡ q → p || q ≡ true → w < 100000
+    go true e q f z = omega (arith, eqb-true w 32 e)
+    go false e true f z = omega (arith, eqb-true w 64 f)
+    go false e false f z = absurd (true≢false (sym z))
 
 sum-few : (n : ℕ) (t : Record) → n ≤ 64 → sumFault n t ≡ 0 → Few t
-unfolding sumFault
-sum-few n t h = go (leb n (t .x)) refl (leb n (t .a)) refl (leb n (t .b)) refl _
-  where
-    go :
-        (p : Bool) → leb n (t .x) ≡ p → (q : Bool) → leb n (t .a) ≡ q → (r : Bool) → leb n (t .b) ≡ r → (rest : ℕ) →
-        cond p 5 (cond q 5 (cond r 5 rest)) ≡ 0 → Few t
-    go true e q f r g rest z = absurd (omega arith)
-    go false e true f r g rest z = absurd (omega arith)
-    go false e false f true g rest z = absurd (omega arith)
-    go false e false f false g rest z =
-        let x = leb-false n (t .x) e in
-        let a = leb-false n (t .a) f in
-        let b = leb-false n (t .b) g in
-        record { x = omega arith; a = omega arith; b = omega arith }
+sum-few n t h z =
+    let m = names-of n t z in
+    record { x = omega (arith, m .x-in); a = omega (arith, m .a-in); b = omega (arith, m .b-in) }
 
 -- ---- the step at each kind of line
 begins : start ≡ after [] 0 0 0
@@ -69,9 +50,9 @@ begins = refl
 head-next : (rest : List ℕ) (w m : ℕ) → length (headText w m ++ (feed ∷ rest)) ≤ 8192 → headFault w m ≡ 0 → nextOf (headText w m ++ (feed ∷ rest)) start ≡ Head w m (after (headText w m ++ (feed ∷ [])) w 0 0)
 unfolding admitted headStep
 head-next rest w m h z =
-    let g = head-good w m z in
+    let g = good-head w m z in
     ap (nextOf (headText w m ++ (feed ∷ rest))) begins
-    ∙ rw (next-line [] (headText w m) rest 0 0 0 (head-free w m) h, head-back 0 w m (g .width) (g .limit), eq-eqb (headFault w m) 0 z)
+    ∙ rw (next-line [] (headText w m) rest 0 0 0 (head-free w m) h, head-back 0 w m (width-small w (g .known)) (omega (arith, g .few)), eq-eqb (headFault w m) 0 z)
 
 module _ (text read rest : List ℕ) (w i j : ℕ) (h : length text ≤ 8192) (p : 0 < length read) where
   cell-next : (I : Interval) → text ≡ read ++ (cellText w I ++ (feed ∷ rest)) → cellFault w I ≡ 0 → i < 64 → nextOf text (after read w i j) ≡ Cell I (after (read ++ (cellText w I ++ (feed ∷ []))) w (i + 1) j)
@@ -114,8 +95,8 @@ module _ (w m : ℕ) (cs : List Interval) (ts : List Record) (g : Passing w m cs
 
   fits : length text ≤ 8192
   fits =
-      let d = head-good w m (g .head) in
-      let a = head-length w m (d .width) (d .limit) in
+      let d = good-head w m (g .head) in
+      let a = head-length w m (width-small w (d .known)) (omega (arith, d .few)) in
       let b = lines-short (cellText w) (cellFault w) (λ v z. cell-length w v) cs (g .cells) in
       let c = lines-short sumText (sumFault (length cs)) (λ v z. omega (arith, sum-length v (few v z))) ts (g .sums) in
       let e = g .few-cells in

@@ -1,12 +1,9 @@
 -- The reader gives every refusal itself: the sheet takes every record that it gives, and what is read passes the sheet's own test. Rests on Moving, Following and Building.
 use mathlib.Core.Path.{_≡_, refl, sym, ap, subst, _∙_}
-use mathlib.Core.Bool.{Bool, true, false, cond}
 use mathlib.Core.List.{List, [], _∷_, _++_}
 use Prim.Native.Nat.{ℕ, zero, suc, _+_, _<_}
 use native.Mathlib.Omega.{arith}
-use lib.Dec.{leb}
 use lib.ListN.{length}
-use borrow.Author.Tests.{lt-leb, leb-false}
 use Rattle.arith.specs.declared.interval.Interval.{Interval}
 use Rattle.sheet.specs.declared.kept.Record.{Record}
 use Rattle.sheet.specs.declared.kept.Sheet.{Sheet}
@@ -15,6 +12,7 @@ use Rattle.sheet.specs.declared.kept.Answer.the-variants.{Done}
 use Rattle.sheet.specs.Faults.{headFault, cellFault, sumFault}
 use Rattle.sheet.specs.Sheets.{testOf, openOf, addCellOf, addSumOf}
 use Rattle.sheet.proofs.Answers.{opened}
+use Rattle.sheet.proofs.Sums.{sum-more}
 use Rattle.reader.specs.Steps.{nextOf, past, afterOf, cursorAfter}
 use Rattle.reader.specs.Readings.{readOf, grown, sheetAfter, Taken, EndsWith, ReadBy}
 use Rattle.reader.specs.declared.cursor.Cursor.{Cursor}
@@ -24,23 +22,7 @@ use Rattle.reader.proofs.Moving.{Onto, Given, a-head, a-cell, a-sum, th
 use Rattle.reader.proofs.Following.{read-records}
 use Rattle.reader.proofs.Building.{Faultless, faultless-append, built, Passing, length-more, built-passes, add-cell, add-sum}
 
--- ---- a sum without a fault has none where there is one cell more
-sum-more : (n : ℕ) (t : Record) → sumFault n t ≡ 0 → sumFault (n + 1) t ≡ 0
-unfolding sumFault
-sum-more n t = go (leb n (t .x)) refl (leb n (t .a)) refl (leb n (t .b)) refl _
-  where
-    go :
-        (p : Bool) → leb n (t .x) ≡ p → (q : Bool) → leb n (t .a) ≡ q → (r : Bool) → leb n (t .b) ≡ r → (rest : ℕ) →
-        cond p 5 (cond q 5 (cond r 5 rest)) ≡ 0 → cond (leb (n + 1) (t .x)) 5 (cond (leb (n + 1) (t .a)) 5 (cond (leb (n + 1) (t .b)) 5 rest)) ≡ 0
-    go true e q f r g rest z = absurd (omega arith)
-    go false e true f r g rest z = absurd (omega arith)
-    go false e false f true g rest z = absurd (omega arith)
-    go false e false f false g rest z =
-        let x = leb-false n (t .x) e in
-        let a = leb-false n (t .a) f in
-        let b = leb-false n (t .b) g in
-        rw (lt-leb (n + 1) (t .x) (omega arith), lt-leb (n + 1) (t .a) (omega arith), lt-leb (n + 1) (t .b) (omega arith)) z
-
+-- ---- sums without a fault have none where there is one cell more
 sums-more : (n : ℕ) (ts : List Record) → Faultless (sumFault n) ts → Faultless (sumFault (n + 1)) ts
 sums-more n [] f = tt
 sums-more n (t ∷ ts) f = (sum-more n t (f .0), sums-more n ts (f .1))

@@ -1,6 +1,6 @@
 // The forward sum beside the hardware's addition, on many operand pairs of each kind.
 //
-// Of each pair are compared: the pattern (the hardware's -0 as 0), refusal 9 where the hardware's sum is infinite and nowhere
+// Of each pair are compared: the pattern (the hardware's -0 as 0), refusal 9 at place 0 where the hardware's sum is infinite and nowhere
 // else, and the mark: 0 where the hardware lost nothing, else 2 below the smallest normal float and 1 above.
 use crate::hardware::Added;
 use crate::hardware::hardware_add;
@@ -64,7 +64,7 @@ fn is_finite(width: u64, sum: Added) -> bool {
 // Whether the reply is the one that the hardware's sum asks for.
 fn agrees(width: u64, got: Reply, sum: Added) -> bool {
     if size_of(width, sum) == infinity_of(width) {
-        return got.refusal == 9;
+        return (got.refusal == 9) & (got.place == 0);
     }
     if got.refusal != 0 {
         return false;

@@ -82,7 +82,7 @@ fn conclude(answer: FloatAnswer, expected: Expected) {
         }
         FloatAnswer::Refused(r) => {
             put_refused(r.number);
-            put_verdict(r.number == expected.refusal);
+            put_verdict((r.number == expected.refusal) & (r.place == 0));
         }
     }
 }

@@ -8,8 +8,8 @@ use Rattle.arith.specs.declared.interval.Interval.{Interval}
 use Rattle.arith.specs.declared.interval.Image.{Image}
 use Rattle.arith.specs.declared.interval.Image.the-variants.{Is, Refused}
 use Rattle.arith.specs.Intervals.{canonicalOf, Valid}
-use Rattle.arith.proofs.Valid.{canonical-is, is-valid, refused-number}
-use Rattle.sheet.specs.Cells.{canonicalCell}
+use Rattle.arith.proofs.Valid.{canonical-is, is-valid, refused-number, valid-bounded, written-valid}
+use Rattle.sheet.specs.Cells.{ordinalsOf, canonicalCell}
 use Rattle.sheet.specs.Faults.{imageNumber, cellFault}
 
 module _ (width : ℕ) (I : Interval) where
@@ -38,3 +38,10 @@ module _ (width : ℕ) (I : Interval) where
   pub no-fault : Valid width I → cellFault width I ≡ 0
   unfolding cellFault
   no-fault g = ap imageNumber (canonical-is width I g)
+
+-- the canonical form of a faultless cell is faultless
+pub canonical-faultless : (width : ℕ) (cell : Interval) → cellFault width cell ≡ 0 → cellFault width (canonicalCell width cell) ≡ 0
+canonical-faultless width cell z =
+    let v = fault-free width cell z in
+    let b = valid-bounded width cell v in
+    no-fault width (canonicalCell width cell) (written-valid width (ordinalsOf width cell) (b .0) (v .known) (b .1))

@@ -9,7 +9,7 @@ use lib.ListN.{length, getD, take}
 use lib.Seq.{getD-take, ext-getD, length-take-le}
 use Rattle.arith.specs.declared.interval.Interval.{Interval}
 use Rattle.sheet.specs.Sheets.{noCell}
-use Rattle.sheet.specs.Steps.{Compares}
+use Rattle.sheet.specs.Loops.{Compares}
 
 pub same-ends : {u v : Interval} → u .low ≡ v .low → u .high ≡ v .high → u ≡ v
 same-ends l h = λ i. record { low = l i; high = h i }

@@ -1,6 +1,7 @@
 -- The answer of narrowing a sheet, from how its run ended.
 -- Assumes nothing.
 use mathlib.Core.Path.{_≡_, refl, sym, ap, ap₂, subst, _∙_}
+use mathlib.Core.List.{[], _∷_}
 use Prim.Native.Nat.{ℕ, _<_}
 use native.Mathlib.Omega.{arith}
 use lib.ListN.{length, getD}
@@ -14,11 +15,11 @@ use Rattle.sheet.specs.declared.passes.Outcome.the-variants.{NoTriple, R
 use Rattle.sheet.specs.declared.passes.Halted.{Halted}
 use Rattle.sheet.specs.declared.narrowing.Run.{Run}
 use Rattle.sheet.specs.Cells.{fractionOf, exponentOf, boxOf}
-use Rattle.sheet.specs.Sheets.{noSum, usedCells, usedSums, withCells, tidied, testOf}
+use Rattle.sheet.specs.Sheets.{noSum, places, usedCells, usedSums, tidied, withCells, testOf}
 use Rattle.sheet.specs.Boxes.{Box, IsBox, Names}
 use Rattle.sheet.specs.Runs.{Ended, settled, stopped, noTriple, lastBox, endNumber, endValues}
-use Rattle.sheet.specs.Steps.{places, endOf, EndsAs}
-use Rattle.sheet.specs.Narrowings.{outcomeNumber, outcomeValues, withBox, ranOn, runAfter, narrowSheetOf, Narrows}
+use Rattle.sheet.specs.Loops.{EndsAs}
+use Rattle.sheet.specs.Narrowings.{outcomeNumber, outcomeValues, endOf, withBox, ranOn, runAfter, narrowSheetOf, Narrows}
 use Rattle.sheet.proofs.Demand.{AllNames, run-box, run-demand3}
 use Rattle.sheet.proofs.Numbers.{test-number}
 use Rattle.sheet.proofs.Places.{box-found}
@@ -49,6 +50,7 @@ refused-narrows s r t =
     record {
       answer = ap (λ (a : Answer). runAfter a s) (sym t);
       told = λ d. absurd (let z : _≡_ {A = ℕ} 0 1 = cc in omega arith);
+      refused = λ q u. let e : r ≡ q = cc in (ap (λ (v : Refusal). v .number) e, ap (λ (v : Refusal). v .place ∷ []) e);
       kept = λ p q. refl;
       demand3 = record { settled = λ z. absurd (omega arith); stopped = λ z. absurd (omega arith); none = λ z. absurd (omega arith) };
     }
@@ -93,6 +95,7 @@ module _ (s : Sheet) (cells-long : length (s .cells) ≡ 64) (sums-long : length
       record {
         answer = e ∙ ap (λ (a : Answer). runAfter a s) (sym t);
         told = λ d. rw e (sym (number-is (endOf s)), sym (values-are (endOf s)));
+        refused = λ q u. absurd (let z : _≡_ {A = ℕ} 0 1 = cc in omega arith);
         kept = subst (λ (u : Run). (outcomeNumber (u .outcome) ≡ 0 → ⊥) → (outcomeNumber (u .outcome) ≡ 12 → ⊥) → u .sheet ≡ s) (sym e) (kept-as (endOf s));
         demand3 = rw e (rw (← (number-is (endOf s)), ← (last-is (endOf s) box)) whole);
       }

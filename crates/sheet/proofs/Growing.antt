@@ -6,32 +6,26 @@ use Prim.Native.Nat.{ℕ, _+_, _-_, _<_, _≤_}
 use native.Mathlib.Omega.{arith}
 use native.Mathlib.Decide.{ℕ-discrete}
 use lib.ListN.{length, getD, take, set, length-set, replicate, length-take, length-map, List·getD-append}
-use lib.Seq.{length-take-le, getD-take, getD-set-same, getD-set-other}
+use lib.Seq.{getD-take, getD-set-same, getD-set-other}
 use lib.Dec.{ltb}
 use borrow.Author.Tests.{lt-ltb}
 use Rattle.arith.specs.declared.interval.Interval.{Interval}
-use Rattle.arith.proofs.Valid.{valid-bounded, written-valid}
 use Rattle.sheet.specs.declared.kept.Record.{Record}
 use Rattle.sheet.specs.declared.kept.Sheet.{Sheet}
 use Rattle.sheet.specs.declared.kept.Answer.the-variants.{Done}
 use Rattle.sheet.specs.declared.kept.Kept.{Kept}
-use Rattle.sheet.specs.Cells.{ordinalsOf, canonicalCell}
+use Rattle.sheet.specs.Cells.{canonicalCell}
 use Rattle.sheet.specs.Faults.{headFault, cellFault, sumFault}
-use Rattle.sheet.specs.Sheets.{noCell, noSum, blank, usedCells, usedSums, tidied, firstFault, testOf, withCell, withSum, openOf, addCellOf, addSumOf}
+use Rattle.sheet.specs.Sheets.{noCell, noSum, blank, usedCells, usedSums, tidied, firstFault, testOf, Sound, withCell, withSum, openOf, addCellOf, addSumOf}
 use Rattle.sheet.proofs.Firsts.{faultless-at, none-found}
 use Rattle.sheet.proofs.Filling.{length-filled}
 use Rattle.sheet.proofs.Answers.{passed, passes-test, opened, added}
-use Rattle.sheet.proofs.Cells.{fault-free, no-fault}
-use Rattle.sheet.proofs.Sums.{names-of, of-names}
+use Rattle.sheet.proofs.Cells.{canonical-faultless}
+use Rattle.sheet.proofs.Sums.{sum-more}
 use Rattle.sheet.proofs.Places.{getD-under}
+use Rattle.sheet.proofs.Tidied.{used, named, tidied-sum}
 
--- a sheet with all its places that passes the test
-pub record Sound (s : Sheet) : Type 0 where
-  pub cells-long : length (s .cells) ≡ 64
-  pub sums-long : length (s .sums) ≡ 128
-  pub passes : testOf s ≡ Done
-
--- by its members: what the test asks of each
+-- a sound sheet by its members: what the test asks of each
 record Good (s : Sheet) : Type 0 where
   cells-long : length (s .cells) ≡ 64
   sums-long : length (s .sums) ≡ 128
@@ -90,52 +84,31 @@ open-sound width limit z = (
 )
 
 -- ---- tidying
--- the canonical form of a faultless cell is faultless
-pub canonical-faultless : (width : ℕ) (cell : Interval) → cellFault width cell ≡ 0 → cellFault width (canonicalCell width cell) ≡ 0
-canonical-faultless width cell z =
-    let v = fault-free width cell z in
-    let b = valid-bounded width cell v in
-    no-fault width (canonicalCell width cell) (written-valid width (ordinalsOf width cell) (b .0) (v .known) (b .1))
+module _ (s : Sheet) (h : Sound s) where
+  abbrev g : Good s
+  g = good s h
 
-module _ (s : Sheet) (g : Good s) where
   cells-used : length (map (canonicalCell (s .width)) (usedCells s)) ≡ s .«cell_count»
-  cells-used =
-      let a = g .few-cells in
-      let b = g .cells-long in
-      length-map (usedCells s) (canonicalCell (s .width)) ∙ length-take-le (s .«cell_count») (s .cells) (omega arith)
-
-  sums-used : length (usedSums s) ≡ s .«sum_count»
-  sums-used =
-      let a = g .few-sums in
-      let b = g .sums-long in
-      length-take-le (s .«sum_count») (s .sums) (omega arith)
+  cells-used = length-map (usedCells s) (canonicalCell (s .width)) ∙ used s (h .cells-long) (h .sums-long) (h .passes)
 
   tidied-cell : (i : ℕ) → i < s .«cell_count» → getD (tidied s .cells) i noCell ≡ canonicalCell (s .width) (getD (s .cells) i noCell)
   unfolding tidied
   tidied-cell i l =
       let a = cells-used in
-      let b = g .few-cells in
-      let c = g .cells-long in
       List·getD-append (map (canonicalCell (s .width)) (usedCells s)) (replicate (64 - s .«cell_count») noCell) noCell i (omega arith)
-      ∙ getD-under (canonicalCell (s .width)) (usedCells s) i noCell noCell (rw (length-take-le (s .«cell_count») (s .cells) (omega arith)) l)
+      ∙ getD-under (canonicalCell (s .width)) (usedCells s) i noCell noCell (rw (used s (h .cells-long) (h .sums-long) (h .passes)) l)
       ∙ ap (canonicalCell (s .width)) (getD-take (s .«cell_count») (s .cells) i noCell l)
-
-  tidied-sum : (k : ℕ) → k < s .«sum_count» → getD (tidied s .sums) k noSum ≡ getD (s .sums) k noSum
-  unfolding tidied
-  tidied-sum k l =
-      let a = sums-used in
-      List·getD-append (usedSums s) (replicate (128 - s .«sum_count») noSum) noSum k (omega arith) ∙ getD-take (s .«sum_count») (s .sums) k noSum l
 
   tidied-good : Good (tidied s)
   unfolding tidied
   tidied-good = record {
     cells-long = length-filled 64 (s .«cell_count») noCell (map (canonicalCell (s .width)) (usedCells s)) cells-used (g .few-cells);
-    sums-long = length-filled 128 (s .«sum_count») noSum (usedSums s) sums-used (g .few-sums);
+    sums-long = length-filled 128 (s .«sum_count») noSum (usedSums s) (named s (h .cells-long) (h .sums-long) (h .passes)) (g .few-sums);
     head = g .head;
     few-cells = g .few-cells;
     few-sums = g .few-sums;
     cells = λ i l. rw (tidied-cell i l) (canonical-faultless (s .width) (getD (s .cells) i noCell) (g .cells i l));
-    sums = λ k l. rw (tidied-sum k l) (g .sums k l);
+    sums = λ k l. rw (tidied-sum s (h .cells-long) (h .sums-long) (h .passes) k l) (g .sums k l);
   }
 
 -- ---- adding
@@ -147,11 +120,6 @@ one-more P l n v d lt h p i k = go (ℕ-discrete i n)
     go (yes e) = rw (e, getD-set-same l n v d lt) p
     go (no e) = rw (getD-set-other l n i v d e) (h i (omega arith))
 
-wider : (n : ℕ) (r : Record) → sumFault n r ≡ 0 → sumFault (n + 1) r ≡ 0
-wider n r z =
-    let m = names-of n r z in
-    of-names (n + 1) r (record { x-in = omega arith; a-in = omega arith; b-in = omega arith; x-a = m .x-a; x-b = m .x-b; a-b = m .a-b })
-
 with-cell : (s : Sheet) (cell : Interval) → Good s → s .«cell_count» < 64 → cellFault (s .width) cell ≡ 0 → Good (withCell s cell)
 with-cell s cell g lt z =
     let a = g .cells-long in
@@ -162,7 +130,7 @@ with-cell s cell g lt z =
       few-cells = omega arith;
       few-sums = g .few-sums;
       cells = one-more (λ c. cellFault (s .width) c ≡ 0) (s .cells) (s .«cell_count») cell noCell (omega arith) (g .cells) z;
-      sums = λ k l. wider (s .«cell_count») (getD (s .sums) k noSum) (g .sums k l);
+      sums = λ k l. sum-more (s .«cell_count») (getD (s .sums) k noSum) (g .sums k l);
     }
 
 with-sum : (s : Sheet) (sum : Record) → Good s → s .«sum_count» < 128 → sumFault (s .«cell_count») sum ≡ 0 → Good (withSum s sum)
@@ -186,7 +154,7 @@ pub add-cell-sound :
 unfolding addCellOf tidied
 add-cell-sound s cell h z lt = (
   sym (added s (withCell (tidied s) (canonicalCell (s .width) cell)) (testOf s) (cellFault (s .width) cell) (ltb (s .«cell_count») 64) (h .passes) z (lt-ltb _ _ lt)),
-  sound (withCell (tidied s) (canonicalCell (s .width) cell)) (with-cell (tidied s) (canonicalCell (s .width) cell) (tidied-good s (good s h)) lt (canonical-faultless (s .width) cell z)),
+  sound (withCell (tidied s) (canonicalCell (s .width) cell)) (with-cell (tidied s) (canonicalCell (s .width) cell) (tidied-good s h) lt (canonical-faultless (s .width) cell z)),
 )
 
 -- and so is a sum
@@ -197,5 +165,5 @@ pub add-sum-sound :
 unfolding addSumOf tidied
 add-sum-sound s sum h z lt = (
   sym (added s (withSum (tidied s) sum) (testOf s) (sumFault (s .«cell_count») sum) (ltb (s .«sum_count») 128) (h .passes) z (lt-ltb _ _ lt)),
-  sound (withSum (tidied s) sum) (with-sum (tidied s) sum (tidied-good s (good s h)) lt z),
+  sound (withSum (tidied s) sum) (with-sum (tidied s) sum (tidied-good s h) lt z),
 )

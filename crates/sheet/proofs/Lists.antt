@@ -2,18 +2,15 @@
 -- Assumes nothing.
 use mathlib.Core.Path.{_≡_, refl, sym, ap, subst, _∙_}
 use mathlib.Core.Logic.{inl, inr}
-use mathlib.Core.Bool.{Bool, true, false, cond}
 use mathlib.Core.List.{List, [], _∷_, _++_, append-nil}
 use Prim.Native.Nat.{ℕ, zero, suc, _-_, _<_, _≤_, min}
 use native.Mathlib.Nat.{not-suc-le-zero, le-of-suc-le-suc}
 use native.Mathlib.Omega.{arith}
-use lib.Dec.{ltb}
 use lib.ListN.{length, getD, set, take, drop, replicate, length-map, length-replicate}
 use lib.Seq.{take-length, drop-length, take-at}
 use Rattle.ladder.proofs.Cases.{le-or-lt}
 use Rattle.arith.specs.declared.interval.Interval.{Interval}
 use Rattle.arith.specs.declared.refusal.Refusal.{Refusal}
-use Rattle.arith.specs.Formats.{isKnown}
 use Rattle.sheet.specs.declared.kept.Record.{Record}
 use Rattle.sheet.specs.declared.kept.Sheet.{Sheet}
 use Rattle.sheet.specs.declared.kept.Answer.{Answer}
@@ -21,17 +18,17 @@ use Rattle.sheet.specs.declared.kept.Answer.the-variants.{Done, Refused}
 use Rattle.sheet.specs.declared.passes.Outcome.{Outcome}
 use Rattle.sheet.specs.declared.narrowing.Run.{Run}
 use Rattle.sheet.specs.Faults.{headFault}
-use Rattle.sheet.specs.Sheets.{noCell, noSum, usedCells, usedSums, tidied, testLists, testOf}
+use Rattle.sheet.specs.Sheets.{noCell, noSum, places, usedCells, usedSums, tidied, testLists, testOf}
 use Rattle.sheet.specs.Boxes.{Box}
 use Rattle.sheet.specs.Runs.{Ended, settled, stopped, noTriple, run, endNumber, endValues}
 use Rattle.sheet.specs.Consistency.{Demand3}
 use Rattle.sheet.specs.Cells.{fractionOf, exponentOf, boxOf, cellsOf}
-use Rattle.sheet.specs.Steps.{places, endOf}
-use Rattle.sheet.specs.Narrowings.{outcomeNumber, outcomeValues, ranOn, runAfter, narrowSheetOf, Narrows}
+use Rattle.sheet.specs.Narrowings.{outcomeNumber, outcomeValues, endOf, ranOn, runAfter, narrowSheetOf, Narrows}
 use Rattle.sheet.specs.Loading.{puts, storedCells, storedCount, sheetOf}
 use Rattle.sheet.specs.Lists.{Lent, endOfLists, testOfLists, lentBy, lentAfter, narrowListsOf, NarrowsLists}
 use Rattle.sheet.proofs.Answers.{test-head, test-many-cells, test-many-sums}
 use Rattle.sheet.proofs.Filling.{length-filled}
+use Rattle.sheet.proofs.Numbers.{head-small}
 use Rattle.sheet.proofs.Demand.{pass-shrinks, run-all}
 
 -- ---- members put one by one
@@ -66,17 +63,6 @@ run-sized f e sums limit first =
     (λ p c q. q)
     (λ p k c q h. tt)
     (limit - 1) 1 first refl
-
--- ---- a head's number
-head-small : (width limit : ℕ) → headFault width limit ≤ 7
-unfolding headFault
-head-small width limit = small (isKnown width) (ltb limit 1) (ltb 65535 limit)
-  where
-    small : (p q r : Bool) → cond p (cond q 7 (cond r 7 0)) 1 ≤ 7
-    small true true r = omega arith
-    small true false true = omega arith
-    small true false false = omega arith
-    small false q r = omega arith
 
 -- ---- the answers
 module _ (width limit : ℕ) (ys : List Interval) (zs : List Record) where
@@ -120,6 +106,12 @@ module _ (width limit : ℕ) (ys : List Interval) (zs : List Record) where
         let w : o ≡ lentBy width ys ended .outcome = e ∙ ap (λ (a : Answer). lentAfter a width limit ys zs .outcome) d in
         let t = told-by ended in
         (ap outcomeNumber w ∙ t .0, ap outcomeValues w ∙ t .1)
+
+    lists-refused : (q : Refusal) → tested ≡ Refused q → (outcomeNumber o ≡ q .number) × (outcomeValues o ≡ q .place ∷ [])
+    unfolding narrowListsOf
+    lists-refused q d =
+        let w : o ≡ lentAfter (Refused q) width limit ys zs .outcome = e ∙ ap (λ (a : Answer). lentAfter a width limit ys zs .outcome) d in
+        (ap outcomeNumber w, ap outcomeValues w)
 
     lists-left : Leaves o after
     unfolding narrowListsOf
@@ -184,6 +176,7 @@ module _ (width limit : ℕ) (ys : List Interval) (zs : List Record) where
           outcome = same .outcome;
           cells = same .cells;
           told = lists-told _ _ (same .outcome) (same .cells);
+          refused = lists-refused _ _ (same .outcome) (same .cells);
           kept = lists-left _ _ (same .outcome) (same .cells);
           demand3 = subst (λ (t : Type 0). t) (λ i. Demand3 (fractionOf width) (exponentOf width) (used-sums i) (boxOf width (used-cells i)) (boxOf width (last i)) (outcomeNumber (r .outcome))) (h .demand3);
         }
@@ -202,6 +195,7 @@ module _ (width limit : ℕ) (ys : List Interval) (zs : List Record) where
           outcome = o;
           cells = c;
           told = lists-told _ _ o c;
+          refused = lists-refused _ _ o c;
           kept = lists-left _ _ o c;
           demand3 = record { settled = λ z. absurd (omega (arith, n, z)); stopped = λ z. absurd (omega (arith, n, z)); none = λ z box k. absurd (omega (arith, n, z)) };
         }

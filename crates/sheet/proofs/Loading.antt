@@ -65,6 +65,10 @@ Fine d = Is S.the-row d (svals d)
 abbrev pub word : Ty
 word = tyInt w64
 
+-- the value of a sheet has its type
+pub typed : {M : Type 1} (𝓤 : URA M) (H : Heap 𝓤) (A : Atoms 𝓤) → Given 𝓤 H A → (d : Sheet) (w : Val) → Is S.the-row d (w ∷ []) → Holds (hasTy S′.mir w) × WT w
+typed 𝓤 H A W d w is = LL.lawful S.the-type S′.the-laws 𝓤 H A W .typed d _ is .0
+
 module _ (D : Declared) (laws : LL.Laws D) (plains : Plains (fields D)) (copyable : LL.Copyables (D .parts)) (size-fits : Holds (ltb (mem (rowOf D) .size) (2 ^ 64))) (put : Name) where
   abbrev R : RattleType
   R = rowOf D
@@ -163,9 +167,6 @@ module _ (D : Declared) (laws : LL.Laws D) (plains : Plains (fields D)) (copyabl
         loaded zero = sym (at-first ys s)
         loaded (suc i) = ap (λ (t : Sheet). one t i (elem i)) (loaded i) ∙ sym (at-next ys i s)
 
-        typed : (d : Sheet) (w : Val) → Is S.the-row d (w ∷ []) → Holds (hasTy S′.mir w) × WT w
-        typed d w is = LL.lawful S.the-type S′.the-laws 𝓤 H A W .typed d _ is .0
-
         -- what the triple of the function that puts binds outside, and that the caller has what it asks
         abbrev to-put : ℕ → Put .Ghost
         to-put i = ((tt, tt, tt, (state i, (i, (elem i, tt))), (svals (state i), (vint w64 i ∷ [], (vals (elem i), tt)))), tt)
@@ -220,7 +221,7 @@ module _ (D : Declared) (laws : LL.Laws D) (plains : Plains (fields D)) (copyabl
               use0 W (raw (Put .pre (to-put i))) (asks i small fine g) $
               -- [what the callee asks; the row; _4; _5; _6; _7; _8; _9; …]
               calls-is ! (fmOf 𝓤 H (W .laws) 𝓣) putting Puts known (to-put i) mach (LL.tells S.the-type S′.the-laws) (state (suc i)) (λ r e. id⊢ 𝓤 _) (and-then ! (read ! (from ! (stop !)) (look ! 2 refl)) (and-then ! (read ! (from ! (stop !)) (look ! 3 refl)) (and-then ! (read ! (from ! (stop !)) (look ! 7 refl)) (no-more !)))) (λ next. drop ! $
-              land ! (from ! (stop !)) (store ! 1 refl (typed (state (suc i)) _ next)) $
+              land ! (from ! (stop !)) (store ! 1 refl (typed 𝓤 H A W (state (suc i)) _ next)) $
               assigns-last ! (bin ! (read ! (from ! (stop !)) (look ! 2 refl)) (lit ! tt) (record { fits = next-fits })) (from ! (stop !)) (store ! 2 refl (tt, record { fits = next-fits })) $
               forget ! 3 refl $ forget ! 4 refl $ forget ! 5 refl $ forget ! 6 refl $
               rewrite ! 2 (λ (j : ℕ). ‵ (fat fullShare word l₅ 0 (vint w64 j))) (add-one i) refl $
@@ -243,7 +244,7 @@ module _ (D : Declared) (laws : LL.Laws D) (plains : Plains (fields D)) (copyabl
               assigns ! (bin ! (read ! (from ! (stop !)) (look ! 2 refl)) (read ! (from ! (stop !)) (look ! 8 refl)) tt) (from ! (stop !)) (init ! 3 refl (tt, tt)) $
               rewrite ! 3 (λ (t : Bool). ‵ (fat fullShare tyBool l₆ 0 (vbool t))) (le-ltb n n (le-refl n)) refl $
               leaves-loop ! (read ! (from ! (stop !)) (look ! 3 refl)) $ exec ! C Λ En done′ (atRet En Post) $
-              assigns ! (of-opd ! (read ! (from ! (stop !)) (look ! 1 refl))) (from ! (stop !)) (init ! 10 refl (typed (state n) _ fine)) $
+              assigns ! (of-opd ! (read ! (from ! (stop !)) (look ! 1 refl))) (from ! (stop !)) (init ! 10 refl (typed 𝓤 H A W (state n) _ fine)) $
               move ! (0 ∷ 11 ∷ []) $ shuts-slice ! tt R q′ ys b o $
               -- [the token; _4; _5; _6; room for _7, _8, _9; _1; _2; _3; _0; what the slice owns; and that each local dies]
               returns ! (look ! 10 refl) $ forget ! 1 refl $ forget ! 2 refl $ forget ! 3 refl $ forget ! 7 refl $ forget ! 8 refl $ forget ! 9 refl $ forget ! 10 refl $
@@ -255,7 +256,7 @@ module _ (D : Declared) (laws : LL.Laws D) (plains : Plains (fields D)) (copyabl
           loops = turns 𝓤 H A W 𝓣 En turn Left n At (λ i. Fine (state i)) more ends gs
 
         sized : Holds (hasTy S′.mir (mach s)) × WT (mach s)
-        sized = typed s _ gs
+        sized = typed 𝓤 H A W s _ gs
 
         -- the MIR, up to the loop: the slice is looked into once, before it. A `&[T]` is Copy: one copy of what it owns is kept for the exit
         begins : (l₀ l₁ l₂ l₃ l₄ l₅ l₆ l₇ l₈ l₉ : ℕ)

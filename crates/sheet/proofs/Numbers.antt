@@ -22,11 +22,11 @@ use Rattle.sheet.specs.Faults.{imageNumber, headFault, cellFault, sumFau
 use Rattle.sheet.specs.Sheets.{andThen, require, faultAt, firstFault, usedCells, usedSums, testLists, testOf}
 
 -- ---- faults
-pick : (t : Bool) (n m : ℕ) → n ≤ 10 → m ≤ 10 → cond t n m ≤ 10
+pick : {most : ℕ} (t : Bool) (n m : ℕ) → n ≤ most → m ≤ most → cond t n m ≤ most
 pick true n m p q = p
 pick false n m p q = q
 
-head-small : (width limit : ℕ) → headFault width limit ≤ 10
+pub head-small : (width limit : ℕ) → headFault width limit ≤ 7
 unfolding headFault
 head-small width limit = pick (isKnown width) _ 1 (pick (ltb limit 1) 7 _ (omega arith) (pick (ltb 65535 limit) 7 0 (omega arith) (omega arith))) (omega arith)
 
@@ -76,7 +76,7 @@ own-first fault small i (v ∷ vs) = own-then (faultAt (fault v) i) (firstFault 
 pub test-number : (s : Sheet) (r : Refusal) → testOf s ≡ Refused r → (0 < r .number) × (r .number ≤ 10)
 unfolding testLists
 test-number s =
-    own-then (faultAt (headFault (s .width) (s .limit)) 0) _ (own-fault _ 0 (head-small (s .width) (s .limit)))
+    own-then (faultAt (headFault (s .width) (s .limit)) 0) _ (own-fault (headFault (s .width) (s .limit)) 0 (omega (arith, head-small (s .width) (s .limit))))
     (own-then (require (leb (s .«cell_count») 64) 10 64) _ (own-require (leb (s .«cell_count») 64) 10 64 (λ e. omega arith) (omega arith))
     (own-then (require (leb (s .«sum_count») 128) 10 128) _ (own-require (leb (s .«sum_count») 128) 10 128 (λ e. omega arith) (omega arith))
     (own-then (firstFault (cellFault (s .width)) 0 (usedCells s)) _ (own-first (cellFault (s .width)) (cell-small (s .width)) 0 (usedCells s))

@@ -11,9 +11,9 @@ use Rattle.ladder.specs.Solution.{Bounded}
 use Rattle.arith.specs.declared.interval.Interval.{Interval}
 use Rattle.arith.proofs.Valid.{written-span}
 use Rattle.sheet.specs.Cells.{fractionOf, exponentOf, ordinalsOf, patternsOf, boxOf, cellsOf}
-use Rattle.sheet.specs.Sheets.{noCell, filled}
+use Rattle.sheet.specs.Sheets.{noCell, filled, places}
 use Rattle.sheet.specs.Boxes.{Box, at, Proper, IsBox}
-use Rattle.sheet.specs.Steps.{places, boxIn, Shows}
+use Rattle.sheet.specs.Loops.{boxIn, Shows}
 
 -- ---- lists under a function
 module _ {A B : Type 0} (f : A → B) where

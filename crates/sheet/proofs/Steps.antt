@@ -16,10 +16,10 @@ use Rattle.arith.specs.Narrows.{narrowAnswer, narrowOf}
 use Rattle.arith.proofs.Valid.{valid-narrow, written-span, written-valid}
 use Rattle.sheet.specs.declared.kept.Record.{Record}
 use Rattle.sheet.specs.Cells.{fractionOf, exponentOf, patternsOf, boxOf}
-use Rattle.sheet.specs.Sheets.{noCell}
+use Rattle.sheet.specs.Sheets.{noCell, places}
 use Rattle.sheet.specs.Boxes.{Box, at, IsBox, Names}
 use Rattle.sheet.specs.Runs.{unsolved, left, put, stepBy, step, sameBox}
-use Rattle.sheet.specs.Steps.{places, boxIn, Shows, Compares}
+use Rattle.sheet.specs.Loops.{boxIn, Shows, Compares}
 use Rattle.sheet.proofs.Boxes.{equal-same, unequal-same}
 use Rattle.sheet.proofs.Demand.{stays-box}
 use Rattle.sheet.proofs.Places.{bounded, place-at, place-set, box-found, places-show}

@@ -1,8 +1,8 @@
--- A sum without a fault names three different cells of the sheet, and the other way round.
+-- A sum without a fault names three different cells of the sheet, and the other way round; so it has none where there is one cell more.
 -- Assumes nothing.
 use mathlib.Core.Path.{_≡_, refl}
 use mathlib.Core.Bool.{Bool, true, false, cond}
-use Prim.Native.Nat.{ℕ, _<_}
+use Prim.Native.Nat.{ℕ, _+_, _<_}
 use native.Mathlib.Omega.{arith}
 use lib.Dec.{leb, eqb}
 use borrow.Author.Tests.{leb-false, lt-leb, eqb-false, ne-eqb}
@@ -37,3 +37,9 @@ pub of-names : (n : ℕ) (r : Record) → Names n r → sumFault n r ≡ 0
 unfolding sumFault
 of-names n r m =
     simp (lt-leb n (r .x) (m .x-in), lt-leb n (r .a) (m .a-in), lt-leb n (r .b) (m .b-in), ne-eqb (r .x) (r .a) (m .x-a), ne-eqb (r .x) (r .b) (m .x-b), ne-eqb (r .a) (r .b) (m .a-b))
+
+-- one cell more
+pub sum-more : (n : ℕ) (r : Record) → sumFault n r ≡ 0 → sumFault (n + 1) r ≡ 0
+sum-more n r z =
+    let m = names-of n r z in
+    of-names (n + 1) r (record { x-in = omega arith; a-in = omega arith; b-in = omega arith; x-a = m .x-a; x-b = m .x-b; a-b = m .a-b })

@@ -17,10 +17,11 @@ use Rattle.sheet.specs.declared.kept.Sheet.{Sheet}
 use Rattle.sheet.specs.declared.kept.Answer.the-variants.{Done}
 use Rattle.sheet.specs.Cells.{fractionOf, exponentOf, ordinalsOf, patternsOf, boxOf}
 use Rattle.sheet.specs.Faults.{headFault, cellFault, sumFault}
-use Rattle.sheet.specs.Sheets.{noCell, noSum, filled, usedCells, usedSums, tidied, testOf}
+use Rattle.sheet.specs.Sheets.{noCell, noSum, filled, places, usedCells, usedSums, tidied, testOf}
 use Rattle.sheet.specs.Boxes.{Box, at, Proper, IsBox, Names}
 use Rattle.sheet.specs.Runs.{run}
-use Rattle.sheet.specs.Steps.{places, boxIn, Shows, endOf, Ready}
+use Rattle.sheet.specs.Loops.{boxIn, Shows, Ready}
+use Rattle.sheet.specs.Narrowings.{endOf}
 use Rattle.sheet.proofs.Answers.{Passed, passed}
 use Rattle.sheet.proofs.Firsts.{faultless-at}
 use Rattle.sheet.proofs.Cells.{fault-free}
@@ -96,6 +97,10 @@ module _ (s : Sheet) (cells-long : length (s .cells) ≡ 64) (sums-long : length
   unfolding tidied
   tidied-sums = take-at (usedSums s) (replicate (128 - s .«sum_count») noSum) (s .«sum_count») named
 
+  pub tidied-sum : (k : ℕ) → k < s .«sum_count» → getD (tidied s .sums) k noSum ≡ getD (s .sums) k noSum
+  unfolding tidied
+  tidied-sum k l = sym (getD-take (s .«sum_count») (tidied s .sums) k noSum l) ∙ ap (λ (r : List Record). getD r k noSum) tidied-sums ∙ getD-take (s .«sum_count») (s .sums) k noSum l
+
   tidied-box : boxOf (s .width) (take (s .«cell_count») (tidied s .cells)) ≡ boxOf (s .width) (usedCells s)
   tidied-box = ap (λ (l : List Interval). boxIn (s .width) (s .«cell_count») l) tidied-cells ∙ box-found (s .width) (s .«cell_count») (boxOf (s .width) (usedCells s)) first-box
 
@@ -113,9 +118,6 @@ module _ (s : Sheet) (cells-long : length (s .cells) ≡ 64) (sums-long : length
     passes = head .few;
     few-cells = seen .few-cells;
     few-sums = seen .few-sums;
-    names = λ k l. rw (getD-same k l) (sums-name k l);
+    names = λ k l. rw (tidied-sum k l) (sums-name k l);
     shows = subst (Shows (s .width) (s .«cell_count»)) (sym tidied-cells) (places-show (s .width) (s .«cell_count») (boxOf (s .width) (usedCells s)) first-box);
   }
-    where
-      getD-same : (k : ℕ) → k < s .«sum_count» → getD (tidied s .sums) k noSum ≡ getD (s .sums) k noSum
-      getD-same k l = sym (getD-take (s .«sum_count») (tidied s .sums) k noSum l) ∙ ap (λ (r : List Record). getD r k noSum) tidied-sums ∙ getD-take (s .«sum_count») (s .sums) k noSum l

@@ -1,15 +1,14 @@
 -- 01's two plain cases of a run: with no sums it is settled after pass 1, and a cell that no sum names keeps its ends. Assumes nothing.
 use mathlib.Core.Path.{_≡_, refl, _∙_}
 use mathlib.Core.List.{List, [], _∷_}
-use mathlib.Core.Logic.{_≢_}
-use Prim.Native.Nat.{ℕ, suc, _+_, _-_, _<_}
+use Prim.Native.Nat.{ℕ, suc, _+_, _-_}
 use native.Mathlib.Omega.{arith}
-use lib.ListN.{length, getD, set}
+use lib.ListN.{set}
 use Rattle.ladder.specs.Solution.{Interval}
 use Rattle.sheet.specs.declared.kept.Record.{Record}
 use Rattle.sheet.specs.Boxes.{Box, at}
 use Rattle.sheet.specs.Runs.{put, whole, passBy, passFrom, settled, run, lastBox}
-use Rattle.sheet.specs.Sheets.{noSum}
+use Rattle.sheet.specs.Outcomes.{Spares, Unnamed}
 use Rattle.sheet.proofs.Boxes.{set-cases, equal-same}
 use Rattle.sheet.proofs.Demand.{step-cases, run-all}
 use Rattle.sheet.proofs.Runs.{run-settled}
@@ -18,16 +17,6 @@ use Rattle.sheet.proofs.Runs.{run-settled}
 pub run-no-sums : (f e limit : ℕ) (first : Box) → run f e [] limit first ≡ settled 1 first
 unfolding passFrom
 run-no-sums f e limit first = run-settled f e [] 1 first (limit - 1) first refl (equal-same first first refl)
-
--- the sum does not name cell i
-pub record Spares (i : ℕ) (r : Record) : Type 0 where
-  pub x : i ≢ r .x
-  pub a : i ≢ r .a
-  pub b : i ≢ r .b
-
--- no sum names it
-abbrev pub Unnamed : ℕ → List Record → Type 0
-Unnamed i sums = (k : ℕ) → k < length sums → Spares i (getD sums k noSum)
 
 module _ (f e i : ℕ) where
   put-other : (c : Box) (r : Record) (X A B : Interval) → Spares i r → at (put c r X A B) i ≡ at c i

@@ -6,7 +6,7 @@ pub mod Replies
 pub mod Runs
 pub mod Consistency
 pub mod Outcomes
-pub mod Steps
+pub mod Loops
 pub mod Narrowings
 pub mod Loading
 pub mod Lists

@@ -1,9 +1,10 @@
 -- The whole answer of narrowing lent lists, and what it promises. Assumes nothing.
 use mathlib.Core.Path.{_≡_}
-use mathlib.Core.List.{List}
+use mathlib.Core.List.{List, [], _∷_}
 use Prim.Native.Nat.{ℕ}
 use lib.ListN.{length}
 use Rattle.arith.specs.declared.interval.Interval.{Interval}
+use Rattle.arith.specs.declared.refusal.Refusal.{Refusal}
 use Rattle.sheet.specs.declared.kept.Record.{Record}
 use Rattle.sheet.specs.declared.kept.Answer.{Answer}
 use Rattle.sheet.specs.declared.kept.Answer.the-variants as Answer
@@ -43,13 +44,14 @@ lentAfter (Answer.Refused r) width limit cells sums = record { outcome = Refused
 unfoldable pub narrowListsOf : ℕ → ℕ → List Interval → List Record → Lent
 narrowListsOf width limit cells sums = lentAfter (testOfLists width limit cells sums) width limit cells sums
 
--- what the call promises: the outcome; every lent cell afterwards; where the lists pass their test, the run's number and values; that every refusal but 12 leaves the cells as they were; and demand 3 on the cells first given
+-- what the call promises: the outcome; every lent cell afterwards; where the lists pass their test, the run's number and values, else the refusal's number and place; that every refusal but 12 leaves the cells as they were; and demand 3 on the cells first given
 pub record NarrowsLists (width limit : ℕ) (given : List Interval) (sums : List Record) (after : List Interval) (r : Outcome) : Type 0 where
   pub outcome : r ≡ narrowListsOf width limit given sums .outcome
   pub cells : after ≡ narrowListsOf width limit given sums .cells
   pub told :
       testOfLists width limit given sums ≡ Answer.Done →
       (outcomeNumber r ≡ endNumber (endOfLists width limit given sums)) × (outcomeValues r ≡ endValues (endOfLists width limit given sums))
+  pub refused : (t : Refusal) → testOfLists width limit given sums ≡ Answer.Refused t → (outcomeNumber r ≡ t .number) × (outcomeValues r ≡ t .place ∷ [])
   pub kept : (outcomeNumber r ≡ 0 → ⊥) → (outcomeNumber r ≡ 12 → ⊥) → after ≡ given
   pub demand3 :
       Demand3 (fractionOf width) (exponentOf width) sums

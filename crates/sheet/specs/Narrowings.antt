@@ -2,18 +2,18 @@
 use mathlib.Core.Path.{_≡_}
 use mathlib.Core.List.{List, [], _∷_}
 use Prim.Native.Nat.{ℕ}
+use Rattle.arith.specs.declared.refusal.Refusal.{Refusal}
 use Rattle.sheet.specs.declared.kept.Sheet.{Sheet}
 use Rattle.sheet.specs.declared.kept.Answer.{Answer}
 use Rattle.sheet.specs.declared.kept.Answer.the-variants as Answer
 use Rattle.sheet.specs.declared.passes.Outcome.{Outcome}
 use Rattle.sheet.specs.declared.passes.Outcome.the-variants.{Settled, NoTriple, Stopped, Refused}
 use Rattle.sheet.specs.declared.narrowing.Run.{Run}
-use Rattle.sheet.specs.Sheets.{usedCells, usedSums, withCells, tidied, testOf}
+use Rattle.sheet.specs.Sheets.{places, usedCells, usedSums, tidied, withCells, testOf}
 use Rattle.sheet.specs.Boxes.{Box}
-use Rattle.sheet.specs.Runs.{Ended, settled, stopped, noTriple, endNumber, endValues}
+use Rattle.sheet.specs.Runs.{Ended, settled, stopped, noTriple, run, endNumber, endValues}
 use Rattle.sheet.specs.Consistency.{Demand3}
 use Rattle.sheet.specs.Cells.{fractionOf, exponentOf, boxOf}
-use Rattle.sheet.specs.Steps.{places, endOf}
 
 -- 01's number of each case: 0 where nothing is refused
 abbrev pub outcomeNumber : Outcome → ℕ
@@ -28,6 +28,10 @@ outcomeValues (Settled passes) = passes ∷ []
 outcomeValues (NoTriple pass sum) = pass ∷ sum ∷ []
 outcomeValues (Stopped passes) = passes ∷ []
 outcomeValues (Refused r) = r .place ∷ []
+
+-- the run of a sheet, from the cells in use
+abbrev pub endOf : Sheet → Ended
+endOf s = run (fractionOf (s .width)) (exponentOf (s .width)) (usedSums s) (s .limit) (boxOf (s .width) (usedCells s))
 
 -- the sheet with a box in its cells, each end in its one pattern, unused places zero
 abbrev pub withBox : Sheet → Box → Sheet
@@ -48,10 +52,11 @@ runAfter (Answer.Refused r) s = record { sheet = s; outcome = Refused r }
 unfoldable pub narrowSheetOf : Sheet → Run
 narrowSheetOf s = runAfter (testOf s) s
 
--- what the call promises: the answer; where the sheet passes its test, the run's number and values; that every refusal but 12 leaves the sheet as it came; and demand 3 on the cells first given
+-- what the call promises: the answer; where the sheet passes its test, the run's number and values, else the refusal's number and place; that every refusal but 12 leaves the sheet as it came; and demand 3 on the cells first given
 pub record Narrows (s : Sheet) (r : Run) : Type 0 where
   pub answer : r ≡ narrowSheetOf s
   pub told : testOf s ≡ Answer.Done → (outcomeNumber (r .outcome) ≡ endNumber (endOf s)) × (outcomeValues (r .outcome) ≡ endValues (endOf s))
+  pub refused : (t : Refusal) → testOf s ≡ Answer.Refused t → (outcomeNumber (r .outcome) ≡ t .number) × (outcomeValues (r .outcome) ≡ t .place ∷ [])
   pub kept : (outcomeNumber (r .outcome) ≡ 0 → ⊥) → (outcomeNumber (r .outcome) ≡ 12 → ⊥) → r .sheet ≡ s
   pub demand3 :
       Demand3 (fractionOf (s .width)) (exponentOf (s .width)) (usedSums s)

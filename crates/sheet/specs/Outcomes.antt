@@ -1,9 +1,12 @@
--- When a run ends as it does, pass by pass. Assumes nothing.
+-- When a run ends as it does, pass by pass; and that no sum names a cell. Assumes nothing.
 use mathlib.Core.Path.{_≡_}
+use mathlib.Core.Logic.{_≢_}
 use mathlib.Core.List.{List}
-use Prim.Native.Nat.{ℕ, _+_, _≤_}
+use Prim.Native.Nat.{ℕ, _+_, _<_, _≤_}
+use lib.ListN.{length, getD}
 use Rattle.sheet.specs.declared.kept.Record.{Record}
 use Rattle.sheet.specs.Boxes.{Box}
+use Rattle.sheet.specs.Sheets.{noSum}
 use Rattle.sheet.specs.Runs.{broken, whole, pass}
 
 -- pass p begins with the box: every pass before it ran through and moved an end
@@ -31,3 +34,13 @@ pub record Breaks (f e : ℕ) (sums : List Record) (limit : ℕ) (first : Box) (
   pub allowed : p ≤ limit
   pub begins : Begins f e sums first p before
   pub breaks : pass f e sums before ≡ broken k
+
+-- the sum does not name cell i
+pub record Spares (i : ℕ) (r : Record) : Type 0 where
+  pub x : i ≢ r .x
+  pub a : i ≢ r .a
+  pub b : i ≢ r .b
+
+-- 01: no sum names cell i
+abbrev pub Unnamed : ℕ → List Record → Type 0
+Unnamed i sums = (k : ℕ) → k < length sums → Spares i (getD sums k noSum)

@@ -67,7 +67,7 @@ abbrev pub runBy : (Box → Ended) → ℕ → Box → Pass → Ended
 runBy next p box (broken k) = noTriple p k
 runBy next p box (whole new) = cond (sameBox box new) (settled p new) (next new)
 
--- pass p and those after it, of which so many are allowed
+-- pass p, and at most so many passes after it
 unfoldable pub runFrom : ℕ → ℕ → List Record → ℕ → ℕ → Box → Ended
 runFrom f e sums zero p box = runBy (stopped p) p box (pass f e sums box)
 runFrom f e sums (suc more) p box = runBy (runFrom f e sums more (p + 1)) p box (pass f e sums box)

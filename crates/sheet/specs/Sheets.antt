@@ -1,16 +1,18 @@
 -- The kept sheet: what is in use, its one written form, and the whole answers of opening and adding. Assumes nothing.
+use mathlib.Core.Path.{_≡_}
 use mathlib.Core.Bool.{Bool, cond}
 use mathlib.Core.List.{List, [], _∷_, _++_, map}
 use Prim.Native.Nat.{ℕ, _+_, _-_}
 use lib.Dec.{leb, ltb, eqb}
-use lib.ListN.{replicate, take, set}
+use lib.ListN.{length, replicate, take, set}
 use Rattle.arith.specs.declared.interval.Interval.{Interval}
 use Rattle.sheet.specs.declared.kept.Record.{Record}
 use Rattle.sheet.specs.declared.kept.Sheet.{Sheet}
 use Rattle.sheet.specs.declared.kept.Answer.{Answer}
 use Rattle.sheet.specs.declared.kept.Answer.the-variants.{Done, Refused}
 use Rattle.sheet.specs.declared.kept.Kept.{Kept}
-use Rattle.sheet.specs.Cells.{canonicalCell}
+use Rattle.sheet.specs.Boxes.{Box}
+use Rattle.sheet.specs.Cells.{canonicalCell, cellsOf}
 use Rattle.sheet.specs.Faults.{headFault, cellFault, sumFault}
 
 -- ---- places
@@ -25,6 +27,10 @@ noSum = record { x = 0; a = 0; b = 0 }
 -- so many places, of which the first hold a list and the others v
 abbrev pub filled : {A : Type 0} → ℕ → A → List A → ℕ → List A
 filled places v l n = l ++ replicate (places - n) v
+
+-- the 64 places with the n cells of a box, the others zero
+abbrev pub places : ℕ → ℕ → Box → List Interval
+places width n box = filled 64 noCell (cellsOf width box) n
 
 -- a sheet with nothing in use
 abbrev pub blank : ℕ → ℕ → Sheet
@@ -116,6 +122,12 @@ testLists width limit cellCount sumCount cells sums =
 -- the test of a kept sheet
 abbrev pub testOf : Sheet → Answer
 testOf s = testLists (s .width) (s .limit) (s .«cell_count») (s .«sum_count») (usedCells s) (usedSums s)
+
+-- a sheet with all its places that passes the test
+pub record Sound (s : Sheet) : Type 0 where
+  pub cells-long : length (s .cells) ≡ 64
+  pub sums-long : length (s .sums) ≡ 128
+  pub passes : testOf s ≡ Done
 
 -- ---- adding
 -- the sheet's own test, then the fault's number, then 10 where there is no room; place 0 for what is being added

@@ -13,7 +13,7 @@ use crate::passes::Outcome;
 use arith::interval::Interval;
 
 // The lesser of two numbers.
-fn least(n: usize, most: usize) -> usize
+fn min(n: usize, most: usize) -> usize
     ensures { λ r. ⌜ r ≡ min n most ⌝ }
 {
     if n < most {
@@ -112,15 +112,15 @@ fn store_cells(cells: &mut [Interval], n: usize, sheet: Sheet)
     }
 }
 
-// Narrows the cells of a list by the sums of a second list until a pass moves no end. Refusals in the order of lists; every one but 12 leaves the cells as they were.
+// Narrows the cells of a list by the sums of a second list until a pass moves no end, a sum has no triple, or the pass limit is reached. Refusals in the order of lists; every one but 12 leaves the cells as they were.
 pub fn narrow_lists(width: u64, limit: u64, cells: &mut [Interval], sums: &[Record]) -> Outcome
     ensures { λ r. ⌜ NarrowsLists width limit (now (cells .entry)) (now (sums .entry)) (now (cells .exit)) r ⌝ }
 {
     let cell_count = cells.len();
     let sum_count = sums.len();
     let blank = count_lists(width, limit, cell_count, sum_count);
-    let cells_held = least(cell_count, 64);
-    let sums_held = least(sum_count, 128);
+    let cells_held = min(cell_count, 64);
+    let sums_held = min(sum_count, 128);
     let with_cells = load_cells(cells, cells_held, blank);
     let full = load_sums(sums, sums_held, with_cells);
     let run = narrow_sheet(full);

@@ -1,7 +1,7 @@
 // Narrowing a kept sheet.
 ghost use mathlib.Core.Path.{_≡_};
-ghost use Rattle.sheet.specs.Steps.{EndsAs, endOf};
-ghost use Rattle.sheet.specs.Narrowings.{Narrows, ranOn};
+ghost use Rattle.sheet.specs.Loops.{EndsAs};
+ghost use Rattle.sheet.specs.Narrowings.{endOf, ranOn, Narrows};
 ghost use Rattle.sheet.specs.Sheets.{tidied, withCells};
 use crate::kept::Answer;
 use crate::kept::Sheet;
@@ -42,7 +42,7 @@ fn finish(sheet: Sheet, tidy: Sheet, halted: Halted) -> Run
     }
 }
 
-// Narrows the sums of a sheet together until a pass moves no end. The sheet's own refusals first; 11 leaves the sheet as it came, 12 with the box after the last pass.
+// Narrows the sums of a sheet together until a pass moves no end, a sum has no triple, or the pass limit is reached. The sheet's own refusals first; 11 leaves the sheet as it came, 12 with the box after the last pass.
 pub fn narrow_sheet(sheet: Sheet) -> Run
     ensures { λ r. ⌜ Narrows sheet r ⌝ }
 {

@@ -1,7 +1,8 @@
-// The run: passes around sums, from the cells first given until a pass moves no end.
+// The run: passes around sums, from the cells first given until a pass moves no end, a sum has no triple, or the pass limit is reached.
 ghost use Prim.Native.Nat.{_≤_};
 ghost use lib.ListN.{take};
-ghost use Rattle.sheet.specs.Steps.{Compares, Ready, EndsAs, endOf};
+ghost use Rattle.sheet.specs.Loops.{Compares, Ready, EndsAs};
+ghost use Rattle.sheet.specs.Narrowings.{endOf};
 use crate::kept::Sheet;
 use arith::interval::Interval;
 use arith::narrow::Narrowed;

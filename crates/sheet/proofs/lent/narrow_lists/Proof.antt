@@ -66,15 +66,15 @@ use Rattle.sheet.proofs.passes.Outcome.Laws as O′
 use Rattle.sheet.proofs.Lists.{lists-narrow}
 use Rattle.sheet.proofs.Shared.{Kept, lends-shared, shared-back}
 use Rattle.sheet.proofs.Walks.{contractOf, calls-fixed, calls-is}
-use Rattle.sheet.proofs.Loading.{mach, Fine, word}
+use Rattle.sheet.proofs.Loading.{mach, Fine, word, typed}
 use Rattle.sheet.proofs.lent.count_lists as count-lists
 use Rattle.sheet.proofs.lent.count_lists.Symbol as count-lists-def
 use Rattle.sheet.proofs.lent.count_lists.Symbol.{name as #sheet·lent·count-lists}
 use Rattle.sheet.proofs.lent.count_lists.Met as count-lists-thm
-use Rattle.sheet.proofs.lent.least as least
-use Rattle.sheet.proofs.lent.least.Symbol as least-def
-use Rattle.sheet.proofs.lent.least.Symbol.{name as #sheet·lent·least}
-use Rattle.sheet.proofs.lent.least.Met as least-thm
+use Rattle.sheet.proofs.lent.min as min′
+use Rattle.sheet.proofs.lent.min.Symbol as min-def
+use Rattle.sheet.proofs.lent.min.Symbol.{name as #sheet·lent·min}
+use Rattle.sheet.proofs.lent.min.Met as min-thm
 use Rattle.sheet.proofs.lent.load_cells as load-cells
 use Rattle.sheet.proofs.lent.load_cells.Symbol as load-cells-def
 use Rattle.sheet.proofs.lent.load_cells.Symbol.{name as #sheet·lent·load-cells}
@@ -152,8 +152,8 @@ module _ {M : Type 1} (𝓤 : URA M) (H : Heap 𝓤) (A : Atoms 𝓤) (mem : Mem
   abbrev CountLists : Contract 𝓤
   CountLists = contractOf 𝓤 H A count-lists.ended (count-lists.clauses 𝓤 H A mem run)
 
-  abbrev Least : Contract 𝓤
-  Least = contractOf 𝓤 H A least.ended (least.clauses 𝓤 H A mem run)
+  abbrev Min : Contract 𝓤
+  Min = contractOf 𝓤 H A min′.ended (min′.clauses 𝓤 H A mem run)
 
   abbrev LoadCells : Contract 𝓤
   LoadCells = contractOf 𝓤 H A load-cells.ended (load-cells.clauses 𝓤 H A mem run)
@@ -256,9 +256,6 @@ module _ {M : Type 1} (𝓤 : URA M) (H : Heap 𝓤) (A : Atoms 𝓤) (W : Given
   back-fits : back < 2 ^ 64
   back-fits = omega (arith, back-64)
 
-  typed : (d : Sheet) (w : Val) → Is S.the-row d (w ∷ []) → Holds (hasTy S′.mir w) × WT w
-  typed d w is = LL.lawful S.the-type S′.the-laws 𝓤 H A W .typed d _ is .0
-
   typed-run : (d : Run) (w : Val) → Is N.the-row d (w ∷ []) → Holds (hasTy N′.mir w) × WT w
   typed-run d w is = LL.lawful N.the-type N′.the-laws 𝓤 H A W .typed d _ is .0
 
@@ -277,11 +274,11 @@ module _ {M : Type 1} (𝓤 : URA M) (H : Heap 𝓤) (A : Atoms 𝓤) (W : Given
       qed W [] ∵ nothing ! $ nothing ! $ owned ! usize (Is usize) (uint-makes 𝓤 H A W w64) (length zs) _ (refl, gm .0) $ fjoin ! $ owned ! usize (Is usize) (uint-makes 𝓤 H A W w64) (length ys) _ (refl, gn .0) $ fjoin ! $
       owned ! usize (Is usize) (uint-makes 𝓤 H A W w64) limit _ (refl, gl) $ fjoin ! $ owned ! usize (Is usize) (uint-makes 𝓤 H A W w64) width _ (refl, gw) $ fjoin ! $ nothing ! $ join ! $ done !
 
-  abbrev to-least : ℕ → ℕ → Least 𝓤 H A mem run .Ghost
-  to-least n m = ((tt, tt, tt, (n, (m, tt)), (num n ∷ [], (num m ∷ [], tt))), tt)
+  abbrev to-min : ℕ → ℕ → Min 𝓤 H A mem run .Ghost
+  to-min n m = ((tt, tt, tt, (n, (m, tt)), (num n ∷ [], (num m ∷ [], tt))), tt)
 
-  goes-least : (n m : ℕ) → n < 2 ^ 64 → m < 2 ^ 64 → ent 𝓤 (emp 𝓤) (Least 𝓤 H A mem run .pre (to-least n m))
-  goes-least n m n-fits m-fits = qed W [] ∵ nothing ! $ nothing ! $ owned ! usize (Is usize) (uint-makes 𝓤 H A W w64) m _ (refl, m-fits) $ fjoin ! $ owned ! usize (Is usize) (uint-makes 𝓤 H A W w64) n _ (refl, n-fits) $ fjoin ! $ nothing ! $ join ! $ done !
+  goes-min : (n m : ℕ) → n < 2 ^ 64 → m < 2 ^ 64 → ent 𝓤 (emp 𝓤) (Min 𝓤 H A mem run .pre (to-min n m))
+  goes-min n m n-fits m-fits = qed W [] ∵ nothing ! $ nothing ! $ owned ! usize (Is usize) (uint-makes 𝓤 H A W w64) m _ (refl, m-fits) $ fjoin ! $ owned ! usize (Is usize) (uint-makes 𝓤 H A W w64) n _ (refl, n-fits) $ fjoin ! $ nothing ! $ join ! $ done !
 
   abbrev to-cells : ℕ → GName → LoadCells 𝓤 H A mem run .Ghost
   to-cells ν δ = (((ν ∷ [], tt), (fullShare, tt), tt, (x δ, (k, (S₀, tt))), (xv ∷ [], (num k ∷ [], (mach S₀ ∷ [], tt)))), tt)
@@ -330,7 +327,7 @@ module _ {M : Type 1} (𝓤 : URA M) (H : Heap 𝓤) (A : Atoms 𝓤) (W : Given
       owned ! usize (Is usize) (uint-makes 𝓤 H A W w64) limit _ (refl, gl) $ fjoin ! $ owned ! usize (Is usize) (uint-makes 𝓤 H A W w64) width _ (refl, gw) $ fjoin ! $ frame ! $
       owned ! O.the-row (Is O.the-row) (EL.makes O.the-type O′.the-plain 𝓤 H A) (ran .outcome) _ fine $ done !
 
-  module _ (C : Calls 𝓤 H) (Λ : Loops 𝓤 H) (fm : FmC 𝓤 H (W .laws) C) (known-count-lists : Triple 𝓤 (C #sheet·lent·count-lists) (CountLists 𝓤 H A mem run)) (known-least : Triple 𝓤 (C #sheet·lent·least) (Least 𝓤 H A mem run)) (known-load-cells : Triple 𝓤 (C #sheet·lent·load-cells) (LoadCells 𝓤 H A mem run)) (known-load-sums : Triple 𝓤 (C #sheet·lent·load-sums) (LoadSums 𝓤 H A mem run)) (known-narrow-sheet : Triple 𝓤 (C #sheet·narrowing·narrow-sheet) (NarrowSheet 𝓤 H A mem run)) (known-stored-count : Triple 𝓤 (C #sheet·lent·stored-count) (StoredCount 𝓤 H A mem run)) (known-store-cells : Triple 𝓤 (C #sheet·lent·store-cells) (StoreCells 𝓤 H A mem run)) where
+  module _ (C : Calls 𝓤 H) (Λ : Loops 𝓤 H) (fm : FmC 𝓤 H (W .laws) C) (known-count-lists : Triple 𝓤 (C #sheet·lent·count-lists) (CountLists 𝓤 H A mem run)) (known-min : Triple 𝓤 (C #sheet·lent·min) (Min 𝓤 H A mem run)) (known-load-cells : Triple 𝓤 (C #sheet·lent·load-cells) (LoadCells 𝓤 H A mem run)) (known-load-sums : Triple 𝓤 (C #sheet·lent·load-sums) (LoadSums 𝓤 H A mem run)) (known-narrow-sheet : Triple 𝓤 (C #sheet·narrowing·narrow-sheet) (NarrowSheet 𝓤 H A mem run)) (known-stored-count : Triple 𝓤 (C #sheet·lent·stored-count) (StoredCount 𝓤 H A mem run)) (known-store-cells : Triple 𝓤 (C #sheet·lent·store-cells) (StoreCells 𝓤 H A mem run)) where
     module _ (l₀ l₁ l₂ l₃ l₄ l₅ l₆ l₇ l₈ l₉ l₁₀ l₁₁ l₁₂ l₁₃ l₁₄ l₁₅ l₁₆ l₁₇ l₁₈ l₁₉ : ℕ) where
       abbrev En : Env 𝓤 H
       En = (O′.mir, l₀) ∷ (word, l₁) ∷ (word, l₂) ∷ (cellsTy, l₃) ∷ (sumsTy, l₄) ∷ (word, l₅) ∷ (word, l₆) ∷ (S′.mir, l₇) ∷ (word, l₈) ∷ (word, l₉) ∷ (S′.mir, l₁₀) ∷ (S′.mir, l₁₁) ∷ (N′.mir, l₁₂) ∷ (O′.mir, l₁₃) ∷ (word, l₁₄) ∷ (shrPtr, l₁₅) ∷ (sliceTy shrPtr, l₁₆) ∷ (tyUnit, l₁₇) ∷ (mutPtr, l₁₈) ∷ (sliceTy mutPtr, l₁₉) ∷ []
@@ -390,7 +387,7 @@ module _ {M : Type 1} (𝓤 : URA M) (H : Heap 𝓤) (A : Atoms 𝓤) (W : Given
           -- [what sums owns, twice; what cells owns; its token; the token of sums; _19; …]
           move ! (4 ∷ 0 ∷ []) $ use2 W (raw (LoadSums 𝓤 H A mem run .pre to-sums)) (goes-sums fine) $
           calls-is ! fm load-sums.ended (load-sums.clauses 𝓤 H A mem run) known-load-sums to-sums mach (LL.tells S.the-type S′.the-laws) S₂ (λ r e. id⊢ 𝓤 _) (and-then ! (loads ! (from ! (stop !)) (look ! 34 refl)) (and-then ! (loads ! (from ! (stop !)) (look ! 24 refl)) (and-then ! (loads ! (from ! (stop !)) (look ! 22 refl)) (no-more !)))) (λ fine₂. use1 W Tok′ (id⊢ 𝓤 _) $
-          land ! (from ! (stop !)) (init ! 20 refl (typed S₂ _ fine₂)) $
+          land ! (from ! (stop !)) (init ! 20 refl (typed 𝓤 H A W S₂ _ fine₂)) $
           -- [the token of sums; what sums owns; what cells owns; its token; _19; …]
           move ! (2 ∷ 3 ∷ 0 ∷ 1 ∷ []) $ narrows fine₂)
 
@@ -404,7 +401,7 @@ module _ {M : Type 1} (𝓤 : URA M) (H : Heap 𝓤) (A : Atoms 𝓤) (W : Given
           -- [the lent cells; what is kept of them; the token of ν; the token of sums; what sums owns; _19; …]
           move ! (2 ∷ 0 ∷ []) $ use2 W (raw (LoadCells 𝓤 H A mem run .pre (to-cells ν δ))) (goes-cells ν δ fine) $
           calls-is ! fm load-cells.ended (load-cells.clauses 𝓤 H A mem run) known-load-cells (to-cells ν δ) mach (LL.tells S.the-type S′.the-laws) S₁ (λ r e. id⊢ 𝓤 _) (and-then ! (loads ! (from ! (stop !)) (look ! 10 refl)) (and-then ! (loads ! (from ! (stop !)) (look ! 26 refl)) (and-then ! (loads ! (from ! (stop !)) (look ! 28 refl)) (no-more !)))) (λ fine₁. use1 W (‵ (flft (ν ∷ []) fullShare) ⊛ ‵ ftrue) (id⊢ 𝓤 _) $
-          land ! (from ! (stop !)) (init ! 22 refl (typed S₁ _ fine₁)) $
+          land ! (from ! (stop !)) (init ! 22 refl (typed 𝓤 H A W S₁ _ fine₁)) $
           -- the lifetime is ended, and the cells come back
           split ! $ lft-end ! tt $ move ! (0 ∷ 2 ∷ []) $
           use2 W (later (‵ Mut ⊛ ‵ (flft κ q))) (shared-back T.the-row κ (ν ∷ []) q γ b o 𝓤 H A W (named 0) (named 0) ys gn) $ await ! tt $ split ! $
@@ -418,12 +415,12 @@ module _ {M : Type 1} (𝓤 : URA M) (H : Heap 𝓤) (A : Atoms 𝓤) (W : Given
           assigns ! (of-opd ! (loads ! (from ! (fld ! refl (stop !))) (look-in ! 34 (sub ! 1 refl (whole !))))) (from ! (stop !)) (init ! 30 refl (tt, record { fits = gm .0 })) $
           use0 W (raw (CountLists 𝓤 H A mem run .pre to-count)) (goes-count) $
           calls-is ! fm count-lists.ended (count-lists.clauses 𝓤 H A mem run) known-count-lists to-count mach (LL.tells S.the-type S′.the-laws) S₀ (λ r e. id⊢ 𝓤 _) (and-then ! (loads ! (from ! (stop !)) (look ! 41 refl)) (and-then ! (loads ! (from ! (stop !)) (look ! 39 refl)) (and-then ! (loads ! (from ! (stop !)) (look ! 33 refl)) (and-then ! (loads ! (from ! (stop !)) (look ! 31 refl)) (no-more !))))) (λ fine. drop ! $
-          land ! (from ! (stop !)) (init ! 28 refl (typed S₀ _ fine)) $
-          use0 W (raw (Least 𝓤 H A mem run .pre (to-least (length ys) 64))) (goes-least (length ys) 64 (gn .0) (lit< tt)) $
-          calls-is ! fm least.ended (least.clauses 𝓤 H A mem run) known-least (to-least (length ys) 64) num (uint-tells w64) k (λ r e. id⊢ 𝓤 _) (and-then ! (loads ! (from ! (stop !)) (look ! 33 refl)) (and-then ! (lit ! tt) (no-more !))) (λ is₁. drop ! $
+          land ! (from ! (stop !)) (init ! 28 refl (typed 𝓤 H A W S₀ _ fine)) $
+          use0 W (raw (Min 𝓤 H A mem run .pre (to-min (length ys) 64))) (goes-min (length ys) 64 (gn .0) (lit< tt)) $
+          calls-is ! fm min′.ended (min′.clauses 𝓤 H A mem run) known-min (to-min (length ys) 64) num (uint-tells w64) k (λ r e. id⊢ 𝓤 _) (and-then ! (loads ! (from ! (stop !)) (look ! 33 refl)) (and-then ! (lit ! tt) (no-more !))) (λ is₁. drop ! $
           land ! (from ! (stop !)) (init ! 26 refl (typed-num k _ is₁)) $
-          use0 W (raw (Least 𝓤 H A mem run .pre (to-least (length zs) 128))) (goes-least (length zs) 128 (gm .0) (lit< tt)) $
-          calls-is ! fm least.ended (least.clauses 𝓤 H A mem run) known-least (to-least (length zs) 128) num (uint-tells w64) j (λ r e. id⊢ 𝓤 _) (and-then ! (loads ! (from ! (stop !)) (look ! 31 refl)) (and-then ! (lit ! tt) (no-more !))) (λ is₂. drop ! $
+          use0 W (raw (Min 𝓤 H A mem run .pre (to-min (length zs) 128))) (goes-min (length zs) 128 (gm .0) (lit< tt)) $
+          calls-is ! fm min′.ended (min′.clauses 𝓤 H A mem run) known-min (to-min (length zs) 128) num (uint-tells w64) j (λ r e. id⊢ 𝓤 _) (and-then ! (loads ! (from ! (stop !)) (look ! 31 refl)) (and-then ! (lit ! tt) (no-more !))) (λ is₂. drop ! $
           land ! (from ! (stop !)) (init ! 24 refl (typed-num j _ is₂)) $
           loads-cells fine)))
 
@@ -437,13 +434,13 @@ module _ {M : Type 1} (𝓤 : URA M) (H : Heap 𝓤) (A : Atoms 𝓤) (W : Given
         pass1 ! (init ! 36 refl (tt, record { fits = gw })) $ pass1 ! (init ! 34 refl (tt, record { fits = gl })) $ pass1 ! (init ! 32 refl (tt, (tt, (record { fits = gn .0 }, tt)))) $ pass1 ! (init ! 30 refl (tt, (tt, (record { fits = gm .0 }, tt)))) $ pass0 ! $
         move ! (40 ∷ 41 ∷ 42 ∷ 43 ∷ []) $ counts l₀ l₁ l₂ l₃ l₄ l₅ l₆ l₇ l₈ l₉ l₁₀ l₁₁ l₁₂ l₁₃ l₁₄ l₁₅ l₁₆ l₁₇ l₁₈ l₁₉))))))))))))))))))))
 
-module _ {M : Type 1} (𝓤 : URA M) (H : Heap 𝓤) (A : Atoms 𝓤) (W : Given 𝓤 H A) (mem : Memory → SProp 𝓤) (run : Routine → Fun 𝓤) (𝓣 : Tables 𝓤 H) (known-count-lists : Triple 𝓤 (𝓣 .C #sheet·lent·count-lists) (CountLists 𝓤 H A mem run)) (known-least : Triple 𝓤 (𝓣 .C #sheet·lent·least) (Least 𝓤 H A mem run)) (known-load-cells : Triple 𝓤 (𝓣 .C #sheet·lent·load-cells) (LoadCells 𝓤 H A mem run)) (known-load-sums : Triple 𝓤 (𝓣 .C #sheet·lent·load-sums) (LoadSums 𝓤 H A mem run)) (known-narrow-sheet : Triple 𝓤 (𝓣 .C #sheet·narrowing·narrow-sheet) (NarrowSheet 𝓤 H A mem run)) (known-stored-count : Triple 𝓤 (𝓣 .C #sheet·lent·stored-count) (StoredCount 𝓤 H A mem run)) (known-store-cells : Triple 𝓤 (𝓣 .C #sheet·lent·store-cells) (StoreCells 𝓤 H A mem run)) where
+module _ {M : Type 1} (𝓤 : URA M) (H : Heap 𝓤) (A : Atoms 𝓤) (W : Given 𝓤 H A) (mem : Memory → SProp 𝓤) (run : Routine → Fun 𝓤) (𝓣 : Tables 𝓤 H) (known-count-lists : Triple 𝓤 (𝓣 .C #sheet·lent·count-lists) (CountLists 𝓤 H A mem run)) (known-min : Triple 𝓤 (𝓣 .C #sheet·lent·min) (Min 𝓤 H A mem run)) (known-load-cells : Triple 𝓤 (𝓣 .C #sheet·lent·load-cells) (LoadCells 𝓤 H A mem run)) (known-load-sums : Triple 𝓤 (𝓣 .C #sheet·lent·load-sums) (LoadSums 𝓤 H A mem run)) (known-narrow-sheet : Triple 𝓤 (𝓣 .C #sheet·narrowing·narrow-sheet) (NarrowSheet 𝓤 H A mem run)) (known-stored-count : Triple 𝓤 (𝓣 .C #sheet·lent·stored-count) (StoredCount 𝓤 H A mem run)) (known-store-cells : Triple 𝓤 (𝓣 .C #sheet·lent·store-cells) (StoreCells 𝓤 H A mem run)) where
   narrow-lists-walks : Walks 𝓤 H A f.ended stayed (WpFn 𝓤 H (𝓣 .C) (𝓣 .Λ) code.function) (f.clauses 𝓤 H A mem run)
   narrow-lists-walks = walked 𝓤 H A f.ended stayed (f.clauses 𝓤 H A mem run) (WpFn 𝓤 H (𝓣 .C) (𝓣 .Λ) code.function)
       (λ κs. (uint-vals w64, (uint-vals w64, (slice-vals, (slice-vals, tt))))) (λ κs. (uint-tells w64, (uint-tells w64, (mut-slice-tells (named 0) (κs .0) T.the-row, (shr-slice-tells (named 1) (κs .1 .0) R.the-row, tt)))))
       (λ κs qs bounds a g are. via 𝓤 _ (fst∗ 𝓤 _ (emp 𝓤))
       (walk 𝓤 H A W mem run (κs .0) (κs .1 .0) (qs .0) (qs .1 .0) (a .0) (a .1 .0) (a .1 .1 .0 .ptr .0) (a .1 .1 .0 .ptr .1) (a .1 .1 .0 .name) (a .1 .1 .0 .now) (a .1 .1 .1 .0 .ptr .0) (a .1 .1 .1 .0 .ptr .1) (a .1 .1 .1 .0 .name) (a .1 .1 .1 .0 .now)
-      (are .0 .1) (are .1 .0 .1) (are .1 .1 .0 .0 .1) (are .1 .1 .1 .0 .0 .1) (𝓣 .C) (𝓣 .Λ) (fmOf 𝓤 H (W .laws) 𝓣) known-count-lists known-least known-load-cells known-load-sums known-narrow-sheet known-stored-count known-store-cells))
+      (are .0 .1) (are .1 .0 .1) (are .1 .1 .0 .0 .1) (are .1 .1 .1 .0 .0 .1) (𝓣 .C) (𝓣 .Λ) (fmOf 𝓤 H (W .laws) 𝓣) known-count-lists known-min known-load-cells known-load-sums known-narrow-sheet known-stored-count known-store-cells))
 
   narrow-lists-meets : Meets 𝓤 H A f.signature (WpFn 𝓤 H (𝓣 .C) (𝓣 .Λ) code.function) (f.spec 𝓤 H A mem run)
   narrow-lists-meets =
@@ -457,7 +454,7 @@ narrow-lists-spec 𝓤 H 𝓜 𝓖 𝓡 =
     (tables 𝓤 H 𝓜 𝓡 code.env .C) (tables 𝓤 H 𝓜 𝓡 code.env .Λ) #sheet·lent·narrow-lists code.function (code.unfolded 𝓤 H 𝓜 𝓡)
     (narrow-lists-meets 𝓤 H (𝓖 .A) (givenOf 𝓤 H 𝓜 𝓖) (𝓜 .mem) (𝓡 .run) (tablesOf 𝓤 H 𝓜 (tables 𝓤 H 𝓜 𝓡 code.env))
     (cited 𝓤 H (CountLists 𝓤 H (𝓖 .A) (𝓜 .mem) (𝓡 .run)) 𝓜 𝓡 code.env #sheet·lent·count-lists count-lists-def.routine code.calls-sheet·lent·count-lists (count-lists-thm.met 𝓤 H 𝓜 𝓖 𝓡))
-    (cited 𝓤 H (Least 𝓤 H (𝓖 .A) (𝓜 .mem) (𝓡 .run)) 𝓜 𝓡 code.env #sheet·lent·least least-def.routine code.calls-sheet·lent·least (least-thm.met 𝓤 H 𝓜 𝓖 𝓡))
+    (cited 𝓤 H (Min 𝓤 H (𝓖 .A) (𝓜 .mem) (𝓡 .run)) 𝓜 𝓡 code.env #sheet·lent·min min-def.routine code.calls-sheet·lent·min (min-thm.met 𝓤 H 𝓜 𝓖 𝓡))
     (cited 𝓤 H (LoadCells 𝓤 H (𝓖 .A) (𝓜 .mem) (𝓡 .run)) 𝓜 𝓡 code.env #sheet·lent·load-cells load-cells-def.routine code.calls-sheet·lent·load-cells (load-cells-thm.met 𝓤 H 𝓜 𝓖 𝓡))
     (cited 𝓤 H (LoadSums 𝓤 H (𝓖 .A) (𝓜 .mem) (𝓡 .run)) 𝓜 𝓡 code.env #sheet·lent·load-sums load-sums-def.routine code.calls-sheet·lent·load-sums (load-sums-thm.met 𝓤 H 𝓜 𝓖 𝓡))
     (cited 𝓤 H (NarrowSheet 𝓤 H (𝓖 .A) (𝓜 .mem) (𝓡 .run)) 𝓜 𝓡 code.env #sheet·narrowing·narrow-sheet narrow-sheet-def.routine code.calls-sheet·narrowing·narrow-sheet (narrow-sheet-thm.met 𝓤 H 𝓜 𝓖 𝓡))

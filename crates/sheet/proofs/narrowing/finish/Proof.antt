@@ -11,7 +11,7 @@ use Rattle.sheet.proofs.passes.Outcome as T
 use Rattle.sheet.specs.declared.passes.Outcome.{Outcome}
 use Rattle.sheet.specs.declared.passes.Outcome.the-variants.{NoTriple}
 use Rattle.sheet.proofs.Finishing.{finish-none, finish-box}
-use Rattle.sheet.specs.Steps.{endOf}
+use Rattle.sheet.specs.Narrowings.{endOf}
 use Rattle.sheet.proofs.narrowing.finish.Statement.{statement}
 use Rattle.sheet.proofs.narrowing.finish.Tie as tie
 

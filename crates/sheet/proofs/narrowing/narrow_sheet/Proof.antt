@@ -3,8 +3,8 @@
 use Rattle.sheet.proofs.Finishing.{refused-narrows, run-narrows}
 use Rattle.sheet.proofs.Tidied.{tidied-ready, tidied-end}
 use Rattle.sheet.proofs.Filling.{mapped-long}
-use Rattle.sheet.specs.Narrowings.{ranOn}
-use Rattle.sheet.specs.Steps.{endOf, Ready}
+use Rattle.sheet.specs.Narrowings.{endOf, ranOn}
+use Rattle.sheet.specs.Loops.{Ready}
 use Rattle.sheet.specs.declared.kept.Sheet.{Sheet}
 use lib.ListN.{length}
 use mathlib.Core.Path.{_≡_, sym, ap, subst, _∙_}

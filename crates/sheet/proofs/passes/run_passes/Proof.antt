@@ -5,7 +5,7 @@ use Rattle.sheet.proofs.Filling.{mapped-long}
 use Rattle.sheet.proofs.Steps.{step-on, step-off, compared}
 use Rattle.sheet.proofs.Runs.{pass-on, pass-off, pass-end, run-broken, run-settled, run-stopped, run-next}
 use Rattle.sheet.specs.Cells.{fractionOf, exponentOf}
-use Rattle.sheet.specs.Steps.{boxIn, Shows, EndsAs}
+use Rattle.sheet.specs.Loops.{boxIn, Shows, EndsAs}
 use Rattle.sheet.specs.Runs.{whole, passFrom, runFrom, sameBox}
 use Rattle.sheet.specs.Sheets.{noSum, usedSums}
 use Rattle.sheet.specs.Boxes.{Names}

@@ -1,4 +1,4 @@
--- What the loops of the run hold: cells in patterns that stand for a box of ordinals. Assumes nothing.
+-- What the loops of the run hold: cells in patterns that stand for a box of ordinals; what they may start from, and what they leave. Assumes nothing.
 use mathlib.Core.Path.{_≡_}
 use mathlib.Core.Bool.{Bool, true, false}
 use mathlib.Core.List.{List}
@@ -9,16 +9,12 @@ use Rattle.arith.specs.Formats.{isKnown}
 use Rattle.sheet.specs.declared.kept.Sheet.{Sheet}
 use Rattle.sheet.specs.declared.passes.Outcome.the-variants.{Settled, NoTriple, Stopped}
 use Rattle.sheet.specs.declared.passes.Halted.{Halted}
-use Rattle.sheet.specs.Cells.{fractionOf, exponentOf, boxOf, cellsOf}
-use Rattle.sheet.specs.Sheets.{noCell, noSum, filled, usedCells, usedSums}
+use Rattle.sheet.specs.Cells.{fractionOf, exponentOf, boxOf}
+use Rattle.sheet.specs.Sheets.{noSum, places}
 use Rattle.sheet.specs.Boxes.{Box, IsBox, Names}
-use Rattle.sheet.specs.Runs.{Ended, settled, stopped, noTriple, run}
+use Rattle.sheet.specs.Runs.{Ended, settled, stopped, noTriple}
 
 -- ---- cells and boxes
--- the 64 places with the n cells of a box, the others zero
-abbrev pub places : ℕ → ℕ → Box → List Interval
-places width n box = filled 64 noCell (cellsOf width box) n
-
 -- the box of the first n cells
 abbrev pub boxIn : ℕ → ℕ → List Interval → Box
 boxIn width n cells = boxOf width (take n cells)
@@ -27,10 +23,6 @@ boxIn width n cells = boxOf width (take n cells)
 pub record Shows (width n : ℕ) (cells : List Interval) : Type 0 where
   pub box : IsBox (fractionOf width) (exponentOf width) n (boxIn width n cells)
   pub held : cells ≡ places width n (boxIn width n cells)
-
--- the run of a sheet, from the cells in use
-abbrev pub endOf : Sheet → Ended
-endOf s = run (fractionOf (s .width)) (exponentOf (s .width)) (usedSums s) (s .limit) (boxOf (s .width) (usedCells s))
 
 -- ---- the run
 -- t says whether two lists of cells are equal
