@@ -32,7 +32,7 @@ use std::time::Instant;
 use words::Words;
 
 const CASES: usize = 2_000;
-const ROUNDS: usize = 300;
+const ROUNDS: usize = 3_000;
 
 type Call = fn(u64, [u64; 6], &mut [u8]) -> u64;
 

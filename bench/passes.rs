@@ -10,7 +10,7 @@ use std::process::{Command, Stdio};
 use std::time::Instant;
 
 const PASSES: usize = 1_000;
-const ROUNDS: usize = 30;
+const ROUNDS: usize = 100;
 
 struct Sheet {
     cells: Vec<[u64; 2]>,
