@@ -3,7 +3,7 @@
 //! its intervals, of a run with its sums and passes.
 //!
 //! Usage: bench PROGRAM, the program `narrow`. Both sides get the same input and must give the same answers. Each figure is the
-//! best of several rounds in which the sides take turns; the result buffers are not cleared between calls.
+//! best of many rounds in which the sides take turns; the result buffers are not cleared between calls.
 
 #[path = "../tests/common/cases.rs"]
 mod cases;
@@ -61,7 +61,7 @@ fn cancellation<W: Width>(words: &mut Words) -> [Range; 3] {
     [x, a, cases::about_sum::<W>(words, x, a, 8)]
 }
 
-/// The best figure of each side over several rounds. The sides take turns, so that all meet the same state of the machine.
+/// The best figure of each side over many rounds. The sides take turns, so that all meet the same state of the machine.
 pub fn best<const N: usize>(rounds: usize, mut sides: [&mut dyn FnMut() -> f64; N]) -> [f64; N] {
     let mut best = [f64::MAX; N];
     for _ in 0..rounds {

@@ -59,7 +59,7 @@ all32 = interval 0xFF7FFFFF 0x7F7FFFFF
 abbrev pub one32 : Interval
 one32 = point 0x3F800000
 
--- 01's narrowings, x over all finite floats at first
+-- 01's narrowings, in the first three x over all finite floats
 pub record Narrowings : Type 0 where
   -- a = b = 1: below 1 floats are twice as dense
   pub absorbed : narrowOf 64 all64 one64 one64 ≡ Ends (interval 0xBC90000000000000 0x3CA0000000000000) one64 one64

@@ -111,25 +111,25 @@ fn read(limit: u64, given: Four, n: usize, m: usize, reply: Reply, expected: Fou
     put_verdict(equal(got, reply) & equal_cells(cells, expected));
 }
 
-// 01's listing, three cells and one sum.
+// 01's listing, three cells and one sum. The fourth cell is not lent, so its zero keeps its sign.
 fn read_listed(limit: u64, reply: Reply) {
     put_text(b"lists, listing, limit");
     let given = Four {
         c0: interval(0xC630000000000000, 0xC330000000000000),
         c1: interval(0x3FF0000000000000, 0x4630000000000000),
         c2: interval(0x3FE0000000000000, 0x3FF8000000000000),
-        c3: point(0),
+        c3: point(0x8000000000000000),
     };
     let expected = Four {
         c0: interval(0xC33FFFFFFFFFFFFF, 0xC330000000000000),
         c1: interval(0x4330000000000001, 0x4340000000000000),
         c2: point(0x3FF0000000000000),
-        c3: point(0),
+        c3: point(0x8000000000000000),
     };
     read(limit, given, 3, 1, reply, expected);
 }
 
-// 01's sheet whose cells 0 and 2 close in on each other by a place a pass, here both from low to high.
+// 01's sheet whose cells 0 and 2 lose a place at each end in every pass, here both from low to high.
 fn closing(low: u64, high: u64) -> Four {
     Four {
         c0: interval(low, high),

@@ -1,5 +1,6 @@
 // What was compared: how many calls, how they ended, and how many differed.
-use libc::STDOUT_FILENO;
+use crate::print::put_number;
+use crate::print::put_text;
 use sheet::passes::Outcome;
 
 pub(crate) struct Tally {
@@ -50,21 +51,21 @@ pub(crate) fn count_verdict(tally: Tally, agrees: bool) -> Tally {
 }
 
 fn put(text: &[u8], n: u64) {
-    io::write_all(STDOUT_FILENO, text);
-    io::print_decimal(STDOUT_FILENO, n);
+    put_text(text);
+    put_number(n);
 }
 
 pub(crate) fn put_tally(t: Tally) {
-    put(b"lists settled ", t.settled);
-    put(b", stopped ", t.stopped);
-    put(b", no triple ", t.no_triple);
-    put(b", refused 1: ", t.refused[1]);
-    put(b", 7: ", t.refused[7]);
-    put(b", 10: ", t.refused[10]);
-    put(b", 2: ", t.refused[2]);
-    put(b", 3: ", t.refused[3]);
-    put(b", 5: ", t.refused[5]);
-    put(b", 6: ", t.refused[6]);
-    put(b"; differed from the kept sheet ", t.differed);
-    io::write_all(STDOUT_FILENO, b"\n");
+    put(b"lists settled", t.settled);
+    put(b", stopped", t.stopped);
+    put(b", no triple", t.no_triple);
+    put(b", refused 1:", t.refused[1]);
+    put(b", 7:", t.refused[7]);
+    put(b", 10:", t.refused[10]);
+    put(b", 2:", t.refused[2]);
+    put(b", 3:", t.refused[3]);
+    put(b", 5:", t.refused[5]);
+    put(b", 6:", t.refused[6]);
+    put(b"; differed from the kept sheet", t.differed);
+    put_text(b"\n");
 }

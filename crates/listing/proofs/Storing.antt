@@ -1,4 +1,4 @@
--- Laws of runs of stores: one after another is one run, and what a buffer then holds. Rests on specs/Writes.
+-- Laws of runs of stores: one after another is one run, and what a buffer then holds. Rests on specs/Stores.
 use mathlib.Core.Path.{_≡_, sym, ap, _∙_}
 use mathlib.Core.List.{List, [], _∷_, _++_}
 use Prim.Native.Nat.{ℕ, suc, _+_, _≤_, _<_}
@@ -7,7 +7,7 @@ use native.Mathlib.Numerals.{add-one}
 use native.Mathlib.Omega.{arith}
 use lib.ListN.{length, getD, take, drop, set, length-append, drop-of-length-le}
 use lib.Seq.{sets, sets-eq, set-comm, drop-cons, take-at}
-use Rattle.listing.specs.Writes.{Wrote}
+use Rattle.listing.specs.Stores.{Wrote}
 
 -- one run of stores after another is one run
 sets-append : (bs cs l : List ℕ) (at : ℕ) → sets (sets l at bs) (at + length bs) cs ≡ sets l at (bs ++ cs)

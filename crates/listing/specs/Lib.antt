@@ -1,3 +1,3 @@
-pub mod Writes
+pub mod Stores
 pub mod Listings
 pub mod Buffers

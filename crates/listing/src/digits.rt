@@ -3,7 +3,7 @@ ghost use mathlib.Core.Path.{_≡_};
 ghost use Prim.Native.Nat.{_+_, _^_, _≤_, _<_};
 ghost use Rattle.reader.specs.Numbers.{digitsFor};
 ghost use Rattle.reader.specs.Digits.{digitByte, digitsOf, digitCount, decimalOf, hexOf};
-ghost use Rattle.listing.specs.Writes.{Wrote};
+ghost use Rattle.listing.specs.Stores.{Wrote};
 use crate::store::put;
 
 // The byte of a digit.

@@ -2,7 +2,7 @@
 ghost use mathlib.Core.List.{[], _∷_};
 ghost use Prim.Native.Nat.{_+_, _^_, _<_};
 ghost use lib.ListN.{length};
-ghost use Rattle.listing.specs.Writes.{Wrote};
+ghost use Rattle.listing.specs.Stores.{Wrote};
 
 // One byte.
 pub(crate) fn put(buf: &mut [u8], at: usize, b: u8) -> usize

@@ -173,7 +173,7 @@ fn read_listed(limit: u64, reply: Reply) {
     conclude(show_run(listed(limit)), reply, cells);
 }
 
-// 01's sheet whose cells 0 and 2 close in on each other by a place a pass.
+// 01's sheet whose cells 0 and 2 lose a place at each end in every pass.
 fn closing(limit: u64) -> Sheet {
     let s = opened(64, limit);
     let s = with_cell(s, interval(0, 10));

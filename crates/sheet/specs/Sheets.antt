@@ -1,4 +1,4 @@
--- The kept sheet: what is in use, its one written form, and the whole answers of opening and adding. Assumes nothing.
+-- The kept sheet: what is in use, its one written form, its test in the order of lists, and the whole answers of opening and adding. Assumes nothing.
 use mathlib.Core.Path.{_≡_}
 use mathlib.Core.Bool.{Bool, cond}
 use mathlib.Core.List.{List, [], _∷_, _++_, map}

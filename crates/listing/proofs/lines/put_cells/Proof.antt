@@ -3,7 +3,7 @@ use Rattle.sheet.specs.Sheets.{noCell}
 use mathlib.Core.Path.{_≡_, refl, sym}
 use Prim.Native.Nat.{_+_, _-_, _*_, _≤_}
 use lib.ListN.{length, take}
-use Rattle.listing.specs.Writes.{Wrote}
+use Rattle.listing.specs.Stores.{Wrote}
 use Rattle.listing.specs.Listings.{cellLines}
 use Rattle.listing.proofs.Storing.{join}
 use Rattle.listing.proofs.Cells.{lines-on, take-same}
