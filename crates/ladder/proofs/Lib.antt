@@ -15,6 +15,7 @@ pub mod Truncation
 pub mod Threshold
 pub mod Ieee
 pub mod Standard
+pub mod Comparison
 pub mod Extents
 pub mod Narrowing
 pub mod Extremes

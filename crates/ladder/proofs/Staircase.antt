@@ -204,6 +204,17 @@ module _ (f e : ℕ) (some : 1 ≤ f) where
               let r = above-steps down (x - 1) (y - 1) a (z - 1) (omega arith) (omega arith) k w in
               omega (arith, r, hy, ap (sum f e (z - 1)) at, ap (sum f e a) at', sum-comm f e y (z - 1), sum-comm f e x a)
 
+    -- ---- at X's low end t is no more than any sum that reaches b
+    at-low : (X A : Interval) (t : ℕ) → AtMost f e (X .low) b A t → (x a : ℕ) → x ≤ X .low → In X x → In A a → b ≤ sum f e x a → t ≤ sum f e x a
+    at-low X A t p x a l i j g = go p
+      where
+        reach : Attains f e (X .low) b A a
+        reach = record { inside = j; enough = omega (arith, sum-mono f e some x (X .low) a a l (le-refl a), sum-comm f e a (X .low), g) }
+
+        go : AtMost f e (X .low) b A t → t ≤ sum f e x a
+        go (none w) = absurd (w a reach)
+        go (least z m h) = omega (arith, sum-mono f e some (X .low) x z a (i .low) (m .least a reach), sum-comm f e z (X .low), h)
+
     -- ---- every sum that reaches b
     module _
         (X A : Interval) (nx : Bounded f e X) (na : Bounded f e A) (no-sum : (x a : ℕ) → In X x → In A a → sum f e x a ≡ b → ⊥) (r1 : b ≤ sum f e (X .low) (A .high)) (r2 : b ≤ sum f e (X .high) (A .low))
@@ -211,27 +222,6 @@ module _ (f e : ℕ) (some : 1 ≤ f) where
         (p3 : b < s → (z : ℕ) → Least (Attains f e (X .low) b A) z → A .low < z → AtMost f e (z - 1) b X t) (p4 : b < s → (y : ℕ) → Least (Attains f e (A .low) b X) y → X .low < y → AtMost f e (y - 1) b A t) where
       swapped : (a x : ℕ) → In A a → In X x → sum f e a x ≡ b → ⊥
       swapped a x j i h = no-sum x a i j (sum-comm f e x a ∙ h)
-
-      -- at X's low end, and at A's
-      at-low : (x a : ℕ) → x ≤ X .low → In X x → In A a → b ≤ sum f e x a → t ≤ sum f e x a
-      at-low x a l i j g = go p2
-        where
-          reach : Attains f e (X .low) b A a
-          reach = record { inside = j; enough = omega (arith, sum-mono f e some x (X .low) a a l (le-refl a), sum-comm f e a (X .low), g) }
-
-          go : AtMost f e (X .low) b A t → t ≤ sum f e x a
-          go (none w) = absurd (w a reach)
-          go (least z m h) = omega (arith, sum-mono f e some (X .low) x z a (i .low) (m .least a reach), sum-comm f e z (X .low), h)
-
-      at-low' : (x a : ℕ) → a ≤ A .low → In X x → In A a → b ≤ sum f e x a → t ≤ sum f e x a
-      at-low' x a l i j g = go p1
-        where
-          reach : Attains f e (A .low) b X x
-          reach = record { inside = i; enough = omega (arith, sum-mono f e some x x a (A .low) (le-refl x) l, g) }
-
-          go : AtMost f e (A .low) b X t → t ≤ sum f e x a
-          go (none w) = absurd (w x reach)
-          go (least y m h) = omega (arith, sum-mono f e some y x (A .low) a (m .least x reach) (j .low), h)
 
       -- where each next step skips b
       module _ (x a : ℕ) (i : In X x) (j : In A a) (hx : X .low < x) (ha : A .low < a) (g : b < sum f e x a) (v : sum f e (x - 1) a < b) (w : sum f e x (a - 1) < b) where
@@ -296,11 +286,11 @@ module _ (f e : ℕ) (some : 1 ≤ f) where
         ]
 
       down-to : (k x a : ℕ) → x + a ≤ k → In X x → In A a → b ≤ sum f e x a → t ≤ sum f e x a
-      down-to zero x a h i j g = at-low x a (omega arith) i j g
+      down-to zero x a h i j g = at-low X A t p2 x a (omega arith) i j g
       down-to (suc k) x a h i j g = elim (le-or-lt x (X .low)) [
-        | inl q ↦ at-low x a q i j g
+        | inl q ↦ at-low X A t p2 x a q i j g
         | inr q ↦ elim (le-or-lt a (A .low)) [
-          | inl r ↦ at-low' x a r i j g
+          | inl r ↦ omega (arith, at-low A X t p1 a x r j i (omega (arith, sum-comm f e x a)), sum-comm f e x a)
           | inr r ↦ elim (le-or-lt b (sum f e (x - 1) a)) [
             | inl u ↦ le-trans (down-to k (x - 1) a (omega arith) (record { low = omega arith; high = omega arith }) j u) (sum-mono f e some (x - 1) x a a (omega arith) (le-refl a))
             | inr u ↦ elim (le-or-lt b (sum f e x (a - 1))) [

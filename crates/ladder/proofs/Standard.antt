@@ -25,7 +25,7 @@ use Rattle.ladder.proofs.Sum.{rounded-up, rounded-down, sum-range}
 use Rattle.ladder.proofs.Ieee.{frac, round-bits}
 
 -- ---- the sum of two fractions turns on their values alone
-same-ltb : (a b c d : ℕ) → (a < b → c < d) → (c < d → a < b) → ltb a b ≡ ltb c d
+pub same-ltb : (a b c d : ℕ) → (a < b → c < d) → (c < d → a < b) → ltb a b ≡ ltb c d
 same-ltb a b c d p q = elim (le-or-lt b a) [
   | inr l ↦ is-true (ltb a b) (lt→ltb a b l) ∙ sym (is-true (ltb c d) (lt→ltb c d (p l)))
   | inl l ↦ elim (le-or-lt d c) [
@@ -34,19 +34,19 @@ same-ltb a b c d p q = elim (le-or-lt b a) [
   ]
 ]
 
-module _ (F : Format) (c L : ℕ) (C : 0 < c) (P : 0 < L) where
-  lt-up : (a b A B : ℕ) → a * L ≡ A * c → b * L ≡ B * c → a < b → A < B
+module _ (c L : ℕ) (C : 0 < c) (P : 0 < L) where
+  pub lt-up : (a b A B : ℕ) → a * L ≡ A * c → b * L ≡ B * c → a < b → A < B
   lt-up a b A B p q l = lt-of-mul-lt-mul-right c (omega (arith, mul-lt-mul-of-pos-right l P))
 
-  lt-down : (a b A B : ℕ) → a * L ≡ A * c → b * L ≡ B * c → A < B → a < b
+  pub lt-down : (a b A B : ℕ) → a * L ≡ A * c → b * L ≡ B * c → A < B → a < b
   lt-down a b A B p q l = lt-of-mul-lt-mul-right L (omega (arith, mul-lt-mul-of-pos-right l C))
 
   less : (a b A B : ℕ) → a * L ≡ A * c → b * L ≡ B * c → (b - a) * L ≡ (B - A) * c
   less a b A B p q = mul-comm (b - a) L ∙ mul-sub L b a ∙ omega arith ∙ sym (mul-sub c B A) ∙ mul-comm c (B - A)
 
-  sum-same : (s t : Bool) (a b A B : ℕ) → a * L ≡ A * c → b * L ≡ B * c → I.sum F s a t b c ≡ I.sum F s A t B L
+  sum-same : (F : Format) (s t : Bool) (a b A B : ℕ) → a * L ≡ A * c → b * L ≡ B * c → I.sum F s a t b c ≡ I.sum F s A t B L
   unfolding I.sum
-  sum-same s t a b A B p q =
+  sum-same F s t a b A B p q =
       ap₂ (cond (Bool·beq s t)) (round-same F s (a + b) c (A + B) L C P (omega arith))
       (ap (λ (z : Bool). cond z (I.round F t (b - a) c) (I.round F (s && ltb b a) (a - b) c)) (same-ltb a b A B (lt-up a b A B p q) (lt-down a b A B p q))
       ∙ ap₂ (cond (ltb A B)) (round-same F t (b - a) c (B - A) L C P (less a b A B p q))
@@ -61,11 +61,11 @@ add-at F (fin u m e) nan s t A B L P h g = absurd g
 add-at F (fin u m e) (inf v) s t A B L P h g = absurd g
 add-at F (fin u m e) (fin v n d) s t A B L P h g =
     ap₂ (λ (x y : Bool). I.sum F x (m * up e * down d) y (n * up d * down e) (down e * down d)) (h .0) (g .0)
-    ∙ sum-same F (down e * down d) L (mul-pos (down-pos e) (down-pos d)) P s t (m * up e * down d) (n * up d * down e) A B
+    ∙ sum-same (down e * down d) L (mul-pos (down-pos e) (down-pos d)) P F s t (m * up e * down d) (n * up d * down e) A B
     (omega (arith, ap (λ (x : ℕ). x * down d) (h .1))) (omega (arith, ap (λ (x : ℕ). x * down e) (g .1)))
 
 -- ---- a finite pattern's value
-abbrev signedBits : Format → Bool → ℕ → ℕ
+abbrev pub signedBits : Format → Bool → ℕ → ℕ
 signedBits F s m = cond s (top F) 0 + m
 
 fields-value : (F : Format) (s : Bool) (x t : ℕ) → x < ones F → HasValue (ofFields F s x t) s (scaled (hid F) x t) (2 ^ low F)
@@ -113,7 +113,7 @@ unfolding sign
 sign-is binary32 = refl
 sign-is binary64 = refl
 
-infinity-is : (F : Format) → infinity (frac F) (exponents F) ≡ ones F * hid F
+pub infinity-is : (F : Format) → infinity (frac F) (exponents F) ≡ ones F * hid F
 unfolding infinity
 infinity-is binary32 = refl
 infinity-is binary64 = refl
@@ -135,10 +135,10 @@ module _ (F : Format) where
   some = omega (arith, two F)
 
   -- a sign and m
-  abbrev signed : Bool → ℕ → ℕ
+  abbrev pub signed : Bool → ℕ → ℕ
   signed b m = cond b (s - m) (s + m)
 
-  ordinal-bits : (b : Bool) (m : ℕ) → m ≤ cap → ordinal f e (signedBits F b m) ≡ signed b m
+  pub ordinal-bits : (b : Bool) (m : ℕ) → m ≤ cap → ordinal f e (signedBits F b m) ≡ signed b m
   ordinal-bits true m h = ordinal-high f e (top F + m) (omega (arith, sign-is F)) ∙ omega (arith, sign-is F)
   ordinal-bits false m h = ordinal-low f e (0 + m) (omega (arith, infinity-lt-sign f e)) ∙ omega arith
 
@@ -177,15 +177,15 @@ module _ (F : Format) where
       ]
 
   -- a finite pattern by its sign and m, with the value that lib.Ieee reads
-  record Read (p : ℕ) : Type 0 where
-    b : Bool
-    m : ℕ
-    is : p ≡ signedBits F b m
-    low : m < ones F * hid F
-    above-is : above f e (ordinal f e p) ≡ cond b 0 (magnitude f m)
-    below-is : below f e (ordinal f e p) ≡ cond b (magnitude f m) 0
+  pub record Read (p : ℕ) : Type 0 where
+    pub b : Bool
+    pub m : ℕ
+    pub is : p ≡ signedBits F b m
+    pub low : m < ones F * hid F
+    pub above-is : above f e (ordinal f e p) ≡ cond b 0 (magnitude f m)
+    pub below-is : below f e (ordinal f e p) ≡ cond b (magnitude f m) 0
 
-  read-pattern : (p : ℕ) → isFinite f e p ≡ true → Read p
+  pub read-pattern : (p : ℕ) → isFinite f e p ≡ true → Read p
   read-pattern p h = elim (le-or-lt s p) [
     | inl l ↦
         let q = finite-high f e p h l in
