@@ -1,7 +1,8 @@
 //! The narrowing of one sum x + a = b for Rust programs, over the static library `libarith.a` and its C entry.
 //!
 //! `narrow` takes ranges of `f32` or `f64`, `entry` patterns and a buffer as C does. Both are safe: every call gets an answer.
-//! Build the library with `rt staticlib arith`, add this file as a module and link with `-l static=arith`.
+//! Build the library with `rt staticlib arith`, add this file as a module (edition 2021 or later) and link with
+//! `-L target/staticlib -l static=arith`.
 
 use std::ops::RangeInclusive;
 
@@ -32,8 +33,14 @@ pub enum Narrowing<F> {
     OutOfOrder,
 }
 
-/// `f32` and `f64`, by their patterns.
-pub trait Float: Copy {
+mod sealed {
+    pub trait Sealed {}
+    impl Sealed for f32 {}
+    impl Sealed for f64 {}
+}
+
+/// `f32` and `f64`, by their patterns; no other type has it.
+pub trait Float: Copy + sealed::Sealed {
     const WIDTH: u64;
     fn pattern(self) -> u64;
     fn float(pattern: u64) -> Self;

@@ -21,7 +21,7 @@ extern "C" {
  * Otherwise it answers the number of a refusal and writes nothing:
  *    1  width is neither 32 nor 64
  *    2  an end is no finite number of the width (an infinity, a NaN, or bits beyond width 32)
- *    3  a low end lies above its high end
+ *    3  a low end lies above its high end, by place (0 and -0 are equal)
  *   11  there is no solution
  *   13  length is below 48
  * They are tested in this order; the first that applies is the answer.

@@ -53,8 +53,8 @@ pub fn solvable<W: Width>(x: Range, a: Range, b: Range) -> bool {
     halves::<W>(x).iter().any(|half| solvable::<W>(*half, a, b))
 }
 
-/// Whether the answer is the narrowing of the ranges: none if there is no solution; else each end stands in a solution, and none
-/// has a value beyond it.
+/// Whether the answer is the narrowing of the ranges: none if there is no solution; else each end lies in the range given and
+/// stands in a solution, and none has a value beyond it.
 pub fn is_narrowing<W: Width>(given: [Range; 3], answer: Option<Narrowed>) -> bool {
     let solvable = |[x, a, b]: [Range; 3]| solvable::<W>(x, a, b);
     let Some(n) = answer else { return !solvable(given) };
@@ -64,7 +64,10 @@ pub fn is_narrowing<W: Width>(given: [Range; 3], answer: Option<Narrowed>) -> bo
             ranges[i] = range;
             solvable(ranges)
         };
-        with(Range::point(got.low))
+        let inside = |end: Place| given[i].low <= end && end <= given[i].high;
+        inside(got.low)
+            && inside(got.high)
+            && with(Range::point(got.low))
             && with(Range::point(got.high))
             && !with(Range { low: given[i].low, high: got.low - 1 })
             && !with(Range { low: got.high + 1, high: given[i].high })

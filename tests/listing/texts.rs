@@ -74,7 +74,7 @@ pub fn parted() -> Vec<Case> {
         let last = case.text.len().saturating_sub(1);
         [3, last / 2, last].map(|pause| Case { pause: pause.min(last), ..case.clone() })
     };
-    examples().into_iter().flat_map(cut).collect()
+    examples().into_iter().filter(|case| !case.text.is_empty()).flat_map(cut).collect()
 }
 
 /// First lines, each with its refusal.

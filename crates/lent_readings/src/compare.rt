@@ -118,9 +118,12 @@ fn next_case(tally: Tally, c: u64, w: u64) -> Tally {
     };
     let calm = (w >> 11) % 2 == 0;
     let n = c % 67;
-    let few = (w >> 12) % 8 != 0;
     let v = w >> 15;
-    let m = if few { v % 5 } else { v };
+    let m = match (w >> 12) % 8 {
+        0 => v,
+        1 => 123 + v % 8,
+        _ => v % 5,
+    };
     let cells = make_cells(width, calm, w);
     let sums = make_sums(n, calm, next_word(w));
     compare_case(

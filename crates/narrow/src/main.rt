@@ -4,7 +4,7 @@ use libc::STDOUT_FILENO;
 use listing::from_text::list;
 use listing::writer::Written;
 
-// One byte more than the longest text is room enough to refuse a longer one; a listing has at most 4,096 bytes.
+// One byte more than the longest text is room enough to refuse a longer one; 4,096 bytes hold the longest listing. A read that fails ends the text.
 fn main() {
     let mut text = [0u8; 8193];
     let n = io::read_full(STDIN_FILENO, &mut text);
