@@ -1,4 +1,4 @@
--- The first two steps of the forward sum: the exact sum of two floats, with nothing lost, and that sum rounded as if no exponent were too large. Assumes nothing.
+-- The first two steps of the forward sum: the exact sum of two floats, with nothing lost, and that sum rounded as if no exponent were too large. For contracts inside the crate; no public one cites it. Assumes nothing.
 use mathlib.Core.Path.{_≡_}
 use mathlib.Core.Logic.{_⊎_}
 use mathlib.Core.Bool.{Bool, cond}
@@ -34,7 +34,7 @@ exactOf f negative opposite m n =
 unfoldable pub sizeOf : Exact → ℕ
 sizeOf t = cond (t .opposite) (t .larger * 2 ^ t .gap - t .smaller) (t .larger * 2 ^ t .gap + t .smaller) * 2 ^ t .shift
 
--- what rounding relies on: both significands have at most d + 1 digits, a gap is below a number that has them all, the smaller part is no larger than the larger one, and the exponent fits a word
+-- what rounding relies on: both significands have at most d + 1 digits, where there is a gap, the larger has all of them, the smaller part is no larger than the larger one, and the exponent fits a word
 pub record Shaped (d : ℕ) (t : Exact) : Type 0 where
   pub larger : t .larger < 2 * 2 ^ d
   pub smaller : t .smaller < 2 * 2 ^ d
@@ -42,11 +42,11 @@ pub record Shaped (d : ℕ) (t : Exact) : Type 0 where
   pub order : t .smaller ≤ t .larger * 2 ^ t .gap
   pub height : t .gap + t .shift ≤ 2 ^ 63
 
--- the exponent is one of a format with f fraction bits
+-- the exponent, over f fraction bits, fits a word
 abbrev pub Low : ℕ → Exact → Type 0
 Low f t = (t .gap + t .shift) * 2 ^ f ≤ 2 ^ 63
 
--- t is p - n units, above zero or below it
+-- t is p - n units, above zero or below it, and rounding can take it
 pub record Amounts (f d p n : ℕ) (t : Exact) : Type 0 where
   pub up : cond (t .negative) 0 (sizeOf t) ≡ p - n
   pub down : cond (t .negative) (sizeOf t) 0 ≡ n - p

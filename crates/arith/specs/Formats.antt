@@ -15,11 +15,11 @@ binary f e = record { fraction = f; exponent = e; sign = L.sign f e; infinity = 
 abbrev pub isKnown : ℕ → Bool
 isKnown width = eqb width 32 || eqb width 64
 
--- 01: width 32 has 8 exponent bits and 23 fraction bits, width 64 has 11 and 52
+-- 01: width 32 has 8 exponent bits and 23 fraction bits, width 64 has 11 and 52. Any other width is refused before its format is used; here it gets that of 64
 abbrev pub formatOf : ℕ → Format
 formatOf width = cond (eqb width 32) (binary 23 8) (binary 52 11)
 
--- what the arithmetic needs of a format: its numbers are those of its bits, and its patterns fit a word
+-- what the functions inside the crate need of a format: its numbers are those of its bits, and its patterns fit a word
 pub record Sound (F : Format) : Type 0 where
   pub some : 1 ≤ F .fraction
   pub few : F .fraction ≤ 52

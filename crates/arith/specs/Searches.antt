@@ -1,4 +1,4 @@
--- What the functions that the narrowing calls answer: each case of an answer, by `ladder`'s definitions. Assumes nothing.
+-- What the functions that the narrowing calls answer: each case of an answer, by `ladder`'s definitions. For contracts inside the crate; no public one cites it. Assumes nothing.
 use Prim.Native.Nat.{ℕ, _-_, _<_}
 use Rattle.ladder.specs.Solution.{Solution}
 use Rattle.ladder.specs.Narrowing as N

@@ -1,4 +1,4 @@
--- The least operand without a search: what twice an operand must reach, as an exact difference in half units, and half of it rounded toward zero. Assumes nothing.
+-- The least operand without a search: what twice an operand must reach, as an exact difference in half units, and half of it rounded toward zero. For contracts inside the crate; no public one cites it. Assumes nothing.
 use Prim.Native.Nat.{ℕ, _+_, _*_, _/_}
 use lib.Dec.{eqb}
 use Rattle.ladder.specs.Magnitude.{magnitude}

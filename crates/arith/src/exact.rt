@@ -51,7 +51,7 @@ pub(crate) fn distance_from_zero(format: Format, r: u64) -> u64
     r - format.sign
 }
 
-// m is at least n, and negative its sign.
+// The exact sum of two magnitudes, m no smaller than n; negative is m's sign.
 pub(crate) fn combine(fraction: u64, negative: bool, opposite: bool, m: u64, n: u64) -> Exact
     requires { ⌜ (fraction ≤ 52) × (n ≤ m) ⌝ }
     ensures { λ r. ⌜ r ≡ exactOf fraction negative opposite m n ⌝ }
@@ -75,11 +75,12 @@ pub(crate) fn exact_sum(format: Format, x: u64, a: u64) -> Exact
 {
     let m = distance_from_zero(format, x);
     let n = distance_from_zero(format, a);
-    let first = x < format.sign;
-    let second = a < format.sign;
+    let x_negative = x < format.sign;
+    let a_negative = a < format.sign;
+    let opposite = x_negative != a_negative;
     let fraction = format.fraction;
     if n <= m {
-        return combine(fraction, first, first != second, m, n);
+        return combine(fraction, x_negative, opposite, m, n);
     }
-    combine(fraction, second, first != second, n, m)
+    combine(fraction, a_negative, opposite, n, m)
 }

@@ -19,7 +19,7 @@ pub fn known(width: u64) -> bool
     width == 64
 }
 
-// The format of a known width.
+// The format of a known width. Any other is refused before its format is used; here it gets that of 64.
 pub(crate) fn format_of(width: u64) -> Format
     ensures { λ r. ⌜ r ≡ formatOf width ⌝ }
 {

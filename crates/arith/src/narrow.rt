@@ -59,18 +59,18 @@ fn narrow_ranges(format: Format, x: Range, a: Range, b: Range) -> Ranges
     else {
         return Ranges::None;
     };
-    let xs = Range {
+    let x_range = Range {
         low: x_low,
         high: x_high,
     };
-    let ys = Range {
+    let a_range = Range {
         low: a_low,
         high: a_high,
     };
     Ranges::Ends {
-        x: xs,
-        a: ys,
-        b: extent_b(format, xs, ys, b, s, t),
+        x: x_range,
+        a: a_range,
+        b: extent_b(format, x_range, a_range, b, s, t),
     }
 }
 

@@ -16,7 +16,7 @@ pub(crate) struct Scaled {
     pub(crate) shift: u64,
 }
 
-// The rounded magnitude's pattern, and whether nothing was lost.
+// The rounded magnitude's m, its pattern without a sign, and whether nothing was lost.
 pub(crate) struct Rounded {
     pub(crate) place: u64,
     pub(crate) exact: bool,
@@ -39,10 +39,10 @@ fn join(opposite: bool, larger: u64, smaller: u64, shift: u64) -> Scaled
     }
 }
 
-// One word that rounds as the exact sum does. Where the gap is wider than three, smaller keeps its digits down to the third below larger's last, and one sticky digit for all lower ones.
-pub(crate) fn scale(fraction: u64, t: Exact) -> Scaled
-    requires { ⌜ (Digits fraction) × (Shaped fraction t) ⌝ }
-    ensures { λ r. ⌜ Scales fraction t r ⌝ }
+// One word that rounds as the exact sum does. Where the gap is wider than three, smaller keeps its digits down to the third below larger's last, and one sticky digit for all lower ones. d, the digits beside the first, is for the contract alone.
+pub(crate) fn scale(d: u64, t: Exact) -> Scaled
+    requires { ⌜ (Digits d) × (Shaped d t) ⌝ }
+    ensures { λ r. ⌜ Scales d t r ⌝ }
 {
     let gap = t.gap;
     let smaller = t.smaller;

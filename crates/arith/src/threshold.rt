@@ -16,15 +16,15 @@ use crate::words::shift_left;
 use crate::words::shift_right;
 
 // In half units, with a half step added to one of the significands.
-fn double(t: Exact, first: u64, second: u64) -> Exact
-    requires { ⌜ (2 * (t .larger) < 2 ^ 63) × (2 * (t .smaller) < 2 ^ 63) × (first ≤ 1) × (second ≤ 1) ⌝ }
-    ensures { λ r. ⌜ r ≡ doubledOf first second t ⌝ }
+fn double(t: Exact, at_larger: u64, at_smaller: u64) -> Exact
+    requires { ⌜ (2 * (t .larger) < 2 ^ 63) × (2 * (t .smaller) < 2 ^ 63) × («at_larger» ≤ 1) × («at_smaller» ≤ 1) ⌝ }
+    ensures { λ r. ⌜ r ≡ doubledOf «at_larger» «at_smaller» t ⌝ }
 {
     Exact {
         negative: t.negative,
         opposite: t.opposite,
-        larger: 2 * t.larger + first,
-        smaller: 2 * t.smaller + second,
+        larger: 2 * t.larger + at_larger,
+        smaller: 2 * t.smaller + at_smaller,
         gap: t.gap,
         shift: t.shift,
     }
@@ -37,14 +37,19 @@ fn crossing(format: Format, a: u64, b: u64) -> Exact
 {
     let zero = format.sign;
     let fraction = format.fraction;
-    let first = b <= zero;
-    let second = zero < a;
-    let m = if first { zero - b } else { b - zero - 1 };
+    let midpoint_negative = b <= zero;
+    let minus_a_negative = zero < a;
+    let opposite = midpoint_negative != minus_a_negative;
+    let m = if midpoint_negative {
+        zero - b
+    } else {
+        b - zero - 1
+    };
     let n = distance_from_zero(format, a);
     if n <= m {
-        return double(combine(fraction, first, first != second, m, n), 1, 0);
+        return double(combine(fraction, midpoint_negative, opposite, m, n), 1, 0);
     }
-    double(combine(fraction, second, first != second, n, m), 0, 1)
+    double(combine(fraction, minus_a_negative, opposite, n, m), 0, 1)
 }
 
 // Half of n * 2^shift units, rounded toward zero.

@@ -1,5 +1,5 @@
 -- What is found on the way to the ends of a narrowing, each by what holds of it: the least number with a property, the least operand with a sum of at least b, the corner at which the least x and the greatest a stand in a triple.
--- Also the images of an interval that this uses, its mirror and what the clamp leaves of it. Assumes nothing.
+-- Also the images of an interval that this uses, its mirror and what the clamp leaves of it. What the narrowing is, Narrowing says; this is for the functions that find it. Assumes nothing.
 use mathlib.Core.Logic.{_↔_}
 use Prim.Native.Nat.{ℕ, _+_, _-_, _*_, _^_, _≤_, _<_, _∣_, max}
 use Rattle.ladder.specs.Magnitude.{magnitude}

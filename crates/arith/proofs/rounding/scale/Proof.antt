@@ -10,17 +10,17 @@ use Rattle.arith.proofs.rounding.scale.Tie as tie
 shift-left-requires : tie.Need-shift-left-requires
 shift-left-requires c κs =
     let s = c .before in
-    (omega arith, omega (arith, near-fits (s .args .fraction) (s .args .t) (s .pre .0) (s .pre .1) (c .if1 .taken)))
+    (omega arith, omega (arith, near-fits (s .args .d) (s .args .t) (s .pre .0) (s .pre .1) (c .if1 .taken)))
 
 join-requires : tie.Need-join-requires
 join-requires c κs =
     let s = c .before .before in
-    omega (arith, near-fits (s .args .fraction) (s .args .t) (s .pre .0) (s .pre .1) (c .before .if1 .taken))
+    omega (arith, near-fits (s .args .d) (s .args .t) (s .pre .0) (s .pre .1) (c .before .if1 .taken))
 
 returns : tie.Need-returns
 returns c =
     let s = c .before .before .before in
-    scale-near (s .args .fraction) (s .args .t) (s .pre .0) (s .pre .1) (c .before .shift-left .result) (c .join .result) (c .before .shift-left .ensures) (c .join .ensures)
+    scale-near (s .args .d) (s .args .t) (s .pre .0) (s .pre .1) (c .before .shift-left .result) (c .join .result) (c .before .shift-left .ensures) (c .join .ensures)
 
 sub-drop : tie.Need-sub-drop
 sub-drop c = search needs
@@ -31,7 +31,7 @@ shift-right-requires c κs = tt
 mul-jammed : tie.Need-mul-jammed
 mul-jammed c =
     let s = c .before .before in
-    omega (arith, few (s .args .fraction) (s .args .t) (s .pre .0) (s .pre .1), shr-le (s .args .t .smaller) (s .args .t .gap - 3))
+    omega (arith, few (s .args .d) (s .args .t) (s .pre .0) (s .pre .1), shr-le (s .args .t .smaller) (s .args .t .gap - 3))
 
 sticky-requires : tie.Need-sticky-requires
 sticky-requires c κs = tt
@@ -39,12 +39,12 @@ sticky-requires c κs = tt
 add-jammed : tie.Need-add-jammed
 add-jammed c =
     let s = c .before .before .before in
-    omega (arith, few (s .args .fraction) (s .args .t) (s .pre .0) (s .pre .1), shr-le (s .args .t .smaller) (s .args .t .gap - 3))
+    omega (arith, few (s .args .d) (s .args .t) (s .pre .0) (s .pre .1), shr-le (s .args .t .smaller) (s .args .t .gap - 3))
 
 mul-join : tie.Need-mul-join
 mul-join c =
     let s = c .before .before .before .before in
-    omega (arith, few (s .args .fraction) (s .args .t) (s .pre .0) (s .pre .1))
+    omega (arith, few (s .args .d) (s .args .t) (s .pre .0) (s .pre .1))
 
 sub-join : tie.Need-sub-join
 sub-join c = search needs
@@ -62,8 +62,8 @@ join-requires-2 c κs =
     let b = c .before .before .sticky in
     let one : b .result ≤ 1 = omega arith in
     let low : k .result ≤ s .args .t .smaller = omega (arith, shr-le (s .args .t .smaller) (s .args .t .gap - 3)) in (
-      far-fits (s .args .fraction) (s .args .t) (s .pre .0) (s .pre .1) (k .result) (b .result) low one,
-      far-order (s .args .fraction) (s .args .t) (s .pre .0) (s .pre .1) (k .result) (b .result) (c .before .before .before .before .if1 .left) (k .ensures) one,
+      far-fits (s .args .d) (s .args .t) (s .pre .0) (s .pre .1) (k .result) (b .result) low one,
+      far-order (s .args .d) (s .args .t) (s .pre .0) (s .pre .1) (k .result) (b .result) (c .before .before .before .before .if1 .left) (k .ensures) one,
     )
 
 returns-2 : tie.Need-returns-2
@@ -71,7 +71,7 @@ returns-2 c =
     let s = c .before .before .before .before .before .before in
     let k = c .before .before .before .before .shift-right in
     let b = c .before .before .before .sticky in
-    scale-far (s .args .fraction) (s .args .t) (s .pre .0) (s .pre .1) (k .result) (b .result) (c .join2 .result) (c .before .before .before .before .before .if1 .left) (k .ensures) (b .ensures) (c .join2 .ensures)
+    scale-far (s .args .d) (s .args .t) (s .pre .0) (s .pre .1) (k .result) (b .result) (c .join2 .result) (c .before .before .before .before .before .if1 .left) (k .ensures) (b .ensures) (c .join2 .ensures)
 
 pub scale-spec : {M : Type 1} → statement M
 scale-spec =
