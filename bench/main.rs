@@ -31,8 +31,16 @@ use std::hint::black_box;
 use std::time::Instant;
 use words::Words;
 
-const CASES: usize = 2_000;
-const ROUNDS: usize = 3_000;
+/// How many cases a line has, and how often each is called. The few come again so soon that the processor remembers how many
+/// of their branches went; the many do not.
+#[derive(Clone, Copy)]
+struct Amount {
+    cases: usize,
+    rounds: usize,
+}
+
+const FEW: Amount = Amount { cases: 2_000, rounds: 3_000 };
+const MANY: Amount = Amount { cases: 200_000, rounds: 30 };
 
 type Call = fn(u64, [u64; 6], &mut [u8]) -> u64;
 
@@ -101,13 +109,13 @@ pub fn report(what: &str, library: f64, baseline: f64) {
     report_beside(what, library, "baseline", baseline);
 }
 
-fn patterns<W: Width>(make: impl Fn(&mut Words) -> [Range; 3]) -> Vec<[u64; 6]> {
+fn patterns<W: Width>(cases: usize, make: impl Fn(&mut Words) -> [Range; 3]) -> Vec<[u64; 6]> {
     let mut words = Words(0x9E37_79B9_7F4A_7C15);
-    (0..CASES).map(|_| ends::patterns::<W>(make(&mut words))).collect()
+    (0..cases).map(|_| ends::patterns::<W>(make(&mut words))).collect()
 }
 
-fn narrowing<W: Width>(mix: &str, make: impl Fn(&mut Words) -> [Range; 3]) {
-    let cases = patterns::<W>(make);
+fn narrowing<W: Width>(mix: &str, amount: Amount, make: impl Fn(&mut Words) -> [Range; 3]) {
+    let cases = patterns::<W>(amount.cases, make);
     for ends in &cases {
         assert_eq!(
             answer(tazsmibor::entry, W::BITS, *ends),
@@ -116,28 +124,31 @@ fn narrowing<W: Width>(mix: &str, make: impl Fn(&mut Words) -> [Range; 3]) {
         );
     }
     let [library, baseline] =
-        best(ROUNDS, [&mut || round(tazsmibor::entry, W::BITS, &cases), &mut || round(baseline::call, W::BITS, &cases)]);
-    report(&format!("narrowing, width {}, {mix}", W::BITS), library, baseline);
+        best(amount.rounds, [&mut || round(tazsmibor::entry, W::BITS, &cases), &mut || round(baseline::call, W::BITS, &cases)]);
+    report(&format!("narrowing, width {}, {mix}, {} cases", W::BITS, amount.cases), library, baseline);
 }
 
-fn narrowings<W: Width>() {
-    narrowing::<W>("wide intervals", wide::<W>);
-    narrowing::<W>("a few ulps", few_ulps::<W>);
-    narrowing::<W>("cancellation", cancellation::<W>);
+/// The three mixes.
+fn narrowings<W: Width>(amount: Amount) {
+    narrowing::<W>("wide intervals", amount, wide::<W>);
+    narrowing::<W>("a few ulps", amount, few_ulps::<W>);
+    narrowing::<W>("cancellation", amount, cancellation::<W>);
 }
 
 /// By the length of the intervals.
 fn lengths<W: Width>() {
     for k in [0, 10, 20, 30, 40, 50, 60] {
-        narrowing::<W>(&format!("up to 2^{k} + 1 floats"), |words| about::<W>(words, 1 << k));
+        narrowing::<W>(&format!("up to 2^{k} + 1 floats"), FEW, |words| about::<W>(words, 1 << k));
     }
 }
 
 fn main() {
     sums::sums::<Binary32>();
     sums::sums::<Binary64>();
-    narrowings::<Binary32>();
-    narrowings::<Binary64>();
+    narrowings::<Binary32>(FEW);
+    narrowings::<Binary64>(FEW);
+    narrowings::<Binary32>(MANY);
+    narrowings::<Binary64>(MANY);
     let program = std::env::args().nth(1).expect("usage: bench PROGRAM");
     passes::pass(&program);
     lengths::<Binary64>();
