@@ -1,4 +1,4 @@
--- When a run ends as it does, pass by pass; and that no sum names a cell. Assumes nothing.
+-- When a run ends as it does, pass by pass; and 01's cells that no sum names. Assumes nothing.
 use mathlib.Core.Path.{_≡_}
 use mathlib.Core.Logic.{_≢_}
 use mathlib.Core.List.{List}
