@@ -5,7 +5,7 @@ use mathlib.Core.Bool.{Bool, true, false, cond}
 use mathlib.Core.List.{List, [], _∷_}
 use Prim.Native.Nat.{ℕ, zero, suc, _+_, _-_, _<_, _≤_}
 use native.Mathlib.Omega.{arith}
-use lib.ListN.{length, getD, set, length-set}
+use lib.ListN.{length, set, length-set}
 use lib.Seq.{getD-set-same, getD-set-other}
 use Rattle.ladder.specs.Solution.{Interval, Solution}
 use Rattle.ladder.specs.Narrowing.{Narrowing, none, ends, narrowing, HasX, HasA, HasB, Hull}
@@ -13,11 +13,8 @@ use Rattle.ladder.proofs.Hull.{narrowing-none, narrowing-hull, hull-x, hull-a, 
 use Rattle.sheet.specs.declared.kept.Record.{Record}
 use Rattle.sheet.specs.Boxes.{Box, at, Proper, IsBox, Inside, Names}
 use Rattle.sheet.specs.Runs.{Step, unsolved, left, put, stepBy, step, Pass, broken, whole, passBy, passFrom, pass, Ended, settled, stopped, noTriple, sameBox, runBy, runFrom, run, lastBox, endNumber}
-use Rattle.sheet.specs.Consistency.{Stands, Consistent, ConsistentIn, ContainsAll, Demand3}
+use Rattle.sheet.specs.Consistency.{AllNames, Stands, Consistent, ConsistentIn, ContainsAll, Demand3}
 use Rattle.sheet.proofs.Boxes.{set-cases, Around, around, contains, around-self, around-all, around-set, set-around, contained-both, same-is}
-
-abbrev noSum : Record
-noSum = record { x = 0; a = 0; b = 0 }
 
 -- ---- a step
 -- a triple of a box is one of every box around it
@@ -122,9 +119,6 @@ solved : (f e : ℕ) (c d : Box) (r : Record) → Stands f e d r → Around c d 
 solved f e c d r s w h = narrowing-none f e _ _ _ h _ _ _ (solution-out (w (r .x)) (w (r .a)) (w (r .b)) (s .x-low .solution))
 
 -- ---- a pass
-abbrev pub AllNames : ℕ → List Record → Type 0
-AllNames n sums = (k : ℕ) → k < length sums → Names n (getD sums k noSum)
-
 module _ (f e : ℕ) where
   -- a step by the narrowing of its sum
   pub step-cases :

@@ -18,9 +18,10 @@ use Rattle.sheet.specs.Cells.{fractionOf, exponentOf, boxOf}
 use Rattle.sheet.specs.Sheets.{noSum, places, usedCells, usedSums, tidied, withCells, testOf}
 use Rattle.sheet.specs.Boxes.{Box, IsBox, Names}
 use Rattle.sheet.specs.Runs.{Ended, settled, stopped, noTriple, lastBox, endNumber, endValues}
+use Rattle.sheet.specs.Consistency.{AllNames}
 use Rattle.sheet.specs.Loops.{EndsAs}
 use Rattle.sheet.specs.Narrowings.{outcomeNumber, outcomeValues, endOf, withBox, ranOn, runAfter, narrowSheetOf, Narrows}
-use Rattle.sheet.proofs.Demand.{AllNames, run-box, run-demand3}
+use Rattle.sheet.proofs.Demand.{run-box, run-demand3}
 use Rattle.sheet.proofs.Numbers.{test-number}
 use Rattle.sheet.proofs.Places.{box-found}
 use Rattle.sheet.proofs.Tidied.{first-box, sums-name, named}
