@@ -29,7 +29,8 @@ use Rattle.sheet.specs.Lists.{Lent, endOfLists, testOfLists, lentBy, len
 use Rattle.sheet.proofs.Answers.{test-head, test-many-cells, test-many-sums}
 use Rattle.sheet.proofs.Filling.{length-filled}
 use Rattle.sheet.proofs.Numbers.{head-small}
-use Rattle.sheet.proofs.Demand.{pass-shrinks, run-all}
+use Rattle.sheet.proofs.Demand.{pass-shrinks}
+use Rattle.sheet.proofs.Runs.{run-all}
 
 -- ---- members put one by one
 module _ {A : Type 0} (d : A) where
@@ -62,7 +63,7 @@ run-sized f e sums limit first =
     (λ p c q h. q)
     (λ p c q. q)
     (λ p k c q h. tt)
-    (limit - 1) 1 first refl
+    limit first refl
 
 -- ---- the answers
 module _ (width limit : ℕ) (ys : List Interval) (zs : List Record) where
