@@ -31,6 +31,7 @@ use Rattle.sheet.proofs.Filling.{length-filled}
 use Rattle.sheet.proofs.Numbers.{head-small}
 use Rattle.sheet.proofs.Demand.{pass-shrinks}
 use Rattle.sheet.proofs.Runs.{run-all}
+use Rattle.sheet.proofs.Finishing.{told-by, left-by}
 
 -- ---- members put one by one
 module _ {A : Type 0} (d : A) where
@@ -80,23 +81,12 @@ module _ (width limit : ℕ) (ys : List Interval) (zs : List Record) where
   abbrev kept : Run → List Interval
   kept r = storedCells ys (storedCount (r .outcome) (min (length ys) 64)) (r .sheet)
 
-  -- the number and values of the answer are the run's
-  told-by : (E : Ended) → (outcomeNumber (lentBy width ys E .outcome) ≡ endNumber E) × (outcomeValues (lentBy width ys E .outcome) ≡ endValues E)
-  told-by (settled p box) = (refl, refl)
-  told-by (stopped p box) = (refl, refl)
-  told-by (noTriple p k) = (refl, refl)
-
   -- an answer leaves the cells as they were under every refusal but 12
   abbrev Leaves : Outcome → List Interval → Type 0
   Leaves o after = (outcomeNumber o ≡ 0 → ⊥) → (outcomeNumber o ≡ 12 → ⊥) → after ≡ ys
 
-  left-by : (E : Ended) → Leaves (lentBy width ys E .outcome) (lentBy width ys E .cells)
-  left-by (settled p box) a b = absurd (a refl)
-  left-by (stopped p box) a b = absurd (b refl)
-  left-by (noTriple p k) a b = refl
-
   left-after : (a : Answer) → Leaves (lentAfter a width limit ys zs .outcome) (lentAfter a width limit ys zs .cells)
-  left-after Done = left-by ended
+  left-after Done = left-by (cellsOf width) ys ended
   left-after (Refused q) = λ a b. refl
 
   -- so of every outcome and cells that are the answer's
