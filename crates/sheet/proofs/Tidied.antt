@@ -22,7 +22,7 @@ use Rattle.sheet.specs.Boxes.{Box, at, Proper, IsBox, Names}
 use Rattle.sheet.specs.Runs.{run}
 use Rattle.sheet.specs.Loops.{boxIn, Shows, Ready}
 use Rattle.sheet.specs.Narrowings.{endOf}
-use Rattle.sheet.proofs.Answers.{Passed, passed}
+use Rattle.sheet.proofs.Answers.{AllGood, all-good}
 use Rattle.sheet.proofs.Firsts.{faultless-at}
 use Rattle.sheet.proofs.Cells.{fault-free}
 use Rattle.sheet.proofs.Sums.{names-of}
@@ -49,8 +49,8 @@ good-head width limit = go (isKnown width) refl (ltb limit 1) refl (ltb 65535 li
 
 -- ---- the sheet's lists are as long as its arrays
 module _ (s : Sheet) (cells-long : length (s .cells) ≡ 64) (sums-long : length (s .sums) ≡ 128) (t : testOf s ≡ Done) where
-  seen : Passed (s .width) (s .limit) (s .«cell_count») (s .«sum_count») (usedCells s) (usedSums s)
-  seen = passed (s .width) (s .limit) (s .«cell_count») (s .«sum_count») (usedCells s) (usedSums s) t
+  seen : AllGood (s .width) (s .limit) (s .«cell_count») (s .«sum_count») (usedCells s) (usedSums s)
+  seen = all-good (s .width) (s .limit) (s .«cell_count») (s .«sum_count») (usedCells s) (usedSums s) t
 
   head : GoodHead (s .width) (s .limit)
   head = good-head (s .width) (s .limit) (seen .head)
