@@ -152,7 +152,7 @@ module _ (f e : ℕ) where
       h
 
   -- and its box is one of nonempty intervals
-  pub pass-box : (n : ℕ) (rs : List Record) (k : ℕ) (c d : Box) → AllNames n rs → IsBox f e n c → passFrom f e rs k c ≡ whole d → IsBox f e n d
+  pass-box : (n : ℕ) (rs : List Record) (k : ℕ) (c d : Box) → AllNames n rs → IsBox f e n c → passFrom f e rs k c ≡ whole d → IsBox f e n d
   unfolding passFrom
   pass-box n [] k c d m b h =
       let q : c ≡ d = cc in
@@ -168,7 +168,7 @@ module _ (f e : ℕ) where
   Keeps d (broken k) = ⊥
   Keeps d (whole c) = Around c d
 
-  pub pass-keeps : (rs : List Record) (k : ℕ) (c d : Box) → Consistent f e rs d → Around c d → Keeps d (passFrom f e rs k c)
+  pass-keeps : (rs : List Record) (k : ℕ) (c d : Box) → Consistent f e rs d → Around c d → Keeps d (passFrom f e rs k c)
   unfolding passFrom
   pass-keeps [] k c d s w = w
   pass-keeps (r ∷ rs) k c d s w =
@@ -181,7 +181,7 @@ module _ (f e : ℕ) where
   both c r rs s t zero l = s
   both c r rs s t (suc j) l = t j (omega arith)
 
-  pub pass-still : (rs : List Record) (k : ℕ) (c : Box) → AllNames (length c) rs → passFrom f e rs k c ≡ whole c → Consistent f e rs c
+  pass-still : (rs : List Record) (k : ℕ) (c : Box) → AllNames (length c) rs → passFrom f e rs k c ≡ whole c → Consistent f e rs c
   unfolding passFrom
   pass-still [] k c m h = λ j l. absurd (omega arith)
   pass-still (r ∷ rs) k c m h =

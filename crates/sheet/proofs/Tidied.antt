@@ -89,7 +89,7 @@ module _ (s : Sheet) (cells-long : length (s .cells) ≡ 64) (sums-long : length
   unfolding tidied
   tidied-cells = ap (λ (l : List Interval). filled 64 noCell l (s .«cell_count»)) (sym (map-map (patternsOf (s .width)) (ordinalsOf (s .width)) (usedCells s)))
 
-  pub tidied-sums : usedSums (tidied s) ≡ usedSums s
+  tidied-sums : usedSums (tidied s) ≡ usedSums s
   unfolding tidied
   tidied-sums = take-at (usedSums s) (replicate (128 - s .«sum_count») noSum) (s .«sum_count») named
 
