@@ -15,7 +15,7 @@ use Rattle.sheet.specs.declared.kept.Sheet.{Sheet}
 use Rattle.sheet.specs.declared.kept.Answer.the-variants.{Done}
 use Rattle.sheet.specs.Faults.{headFault, cellFault, sumFault}
 use Rattle.sheet.specs.Sheets.{noCell, noSum, blank, usedCells, usedSums, tidied, testOf}
-use Rattle.sheet.proofs.Answers.{opened, passed}
+use Rattle.sheet.proofs.Answers.{opened, all-good}
 use Rattle.sheet.proofs.Sums.{names-of}
 use Rattle.sheet.proofs.Tidied.{good-head}
 use Rattle.reader.specs.Bytes.{indexOf, countOf}
@@ -167,7 +167,7 @@ module _ (w m : ℕ) (cs : List Interval) (ts : List Record) (g : Passing w m cs
 pub round-trip : (s : Sheet) → length (s .cells) ≡ 64 → length (s .sums) ≡ 128 → testOf s ≡ Done → readOf (textOf s) ≡ record { sheet = tidied s; answer = Done }
 unfolding textOf tidied
 round-trip s a b t =
-    let p = passed (s .width) (s .limit) (s .«cell_count») (s .«sum_count») (usedCells s) (usedSums s) t in
+    let p = all-good (s .width) (s .limit) (s .«cell_count») (s .«sum_count») (usedCells s) (usedSums s) t in
     let c : length (usedCells s) ≡ s .«cell_count» = length-take-le (s .«cell_count») (s .cells) (omega (arith, p .few-cells)) in
     let d : length (usedSums s) ≡ s .«sum_count» = length-take-le (s .«sum_count») (s .sums) (omega (arith, p .few-sums)) in
     let g : Passing (s .width) (s .limit) (usedCells s) (usedSums s) = record {

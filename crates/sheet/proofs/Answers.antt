@@ -55,7 +55,7 @@ module _ (width limit m n : ℕ) (cells : List Interval) (sums : List Record) wh
       test-good-cells e = ap (λ (a : Answer). andThen a (firstFault (sumFault m) 0 sums)) (sym e) ∙ test-rest
 
 -- what a test that lets pass has seen
-pub record Passed (width limit m n : ℕ) (cells : List Interval) (sums : List Record) : Type 0 where
+pub record AllGood (width limit m n : ℕ) (cells : List Interval) (sums : List Record) : Type 0 where
   pub head : headFault width limit ≡ 0
   pub few-cells : m ≤ 64
   pub few-sums : n ≤ 128
@@ -70,9 +70,9 @@ require-done : (t : Bool) (n p : ℕ) → require t n p ≡ Done → t ≡ true
 require-done true n p e = refl
 require-done false n p e = absurd (let z : _≡_ {A = ℕ} 0 1 = cc in omega arith)
 
-pub passed : (width limit m n : ℕ) (cells : List Interval) (sums : List Record) → testLists width limit m n cells sums ≡ Done → Passed width limit m n cells sums
+pub all-good : (width limit m n : ℕ) (cells : List Interval) (sums : List Record) → testLists width limit m n cells sums ≡ Done → AllGood width limit m n cells sums
 unfolding testLists
-passed width limit m n cells sums e =
+all-good width limit m n cells sums e =
     let a = and-done (faultAt (headFault width limit) 0) _ e in
     let b = and-done (require (leb m 64) 10 64) _ (a .1) in
     let c = and-done (require (leb n 128) 10 128) _ (b .1) in
@@ -85,7 +85,7 @@ passed width limit m n cells sums e =
       sums-good = d .1;
     }
 
-pub passes-test : (width limit m n : ℕ) (cells : List Interval) (sums : List Record) → Passed width limit m n cells sums → testLists width limit m n cells sums ≡ Done
+pub passes-test : (width limit m n : ℕ) (cells : List Interval) (sums : List Record) → AllGood width limit m n cells sums → testLists width limit m n cells sums ≡ Done
 passes-test width limit m n cells sums p = sym (test-good-cells width limit m n cells sums (p .head) (p .few-cells) (p .few-sums) (p .cells-good)) ∙ p .sums-good
 
 -- ---- adding

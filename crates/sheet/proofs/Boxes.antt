@@ -1,7 +1,7 @@
 -- Laws of boxes: a cell set, containment, and equality by place.
 -- Assumes nothing.
 use mathlib.Core.Path.{_≡_, refl}
-use mathlib.Core.Bool.{Bool, true, false, _&&_}
+use mathlib.Core.Bool.{Bool, true, false, _&&_, and-eq-true-iff}
 use mathlib.Core.List.{[], _∷_}
 use Prim.Native.Nat.{ℕ, _<_}
 use native.Mathlib.Omega.{arith}
@@ -68,14 +68,6 @@ same-interval I J p q =
 pub contained-both : (c d : Box) → length c ≡ length d → Around c d → Around d c → c ≡ d
 contained-both c d e p q = ext-getD (record { low = 0; high = 0 }) c d e (λ i l. same-interval (at c i) (at d i) (p i) (q i))
 
-and-left : (a b : Bool) → (a && b) ≡ true → a ≡ true
-and-left true b e = refl
-and-left false b e = e
-
-and-right : (a b : Bool) → (a && b) ≡ true → b ≡ true
-and-right true b e = e
-and-right false b e = absurd (let z : _≡_ {A = ℕ} 0 1 = cc in omega arith)
-
 pub same-is : (c d : Box) → sameBox c d ≡ true → c ≡ d
 unfolding sameBox
 same-is [] [] e = refl
@@ -83,10 +75,11 @@ same-is [] (v ∷ vs) e = absurd (let z : _≡_ {A = ℕ} 0 1 = cc in omega arit
 same-is (u ∷ us) [] e = absurd (let z : _≡_ {A = ℕ} 0 1 = cc in omega arith)
 same-is (u ∷ us) (v ∷ vs) e =
     let hs = eqb (u .high) (v .high) in
-    let r = and-right (eqb (u .low) (v .low)) (hs && sameBox us vs) e in
-    let l = eqb-true (u .low) (v .low) (and-left (eqb (u .low) (v .low)) (hs && sameBox us vs) e) in
-    let h = eqb-true (u .high) (v .high) (and-left hs (sameBox us vs) r) in
-    let t = same-is us vs (and-right hs (sameBox us vs) r) in
+    let p = and-eq-true-iff (eqb (u .low) (v .low)) (hs && sameBox us vs) .0 e in
+    let q = and-eq-true-iff hs (sameBox us vs) .0 (p .1) in
+    let l = eqb-true (u .low) (v .low) (p .0) in
+    let h = eqb-true (u .high) (v .high) (q .0) in
+    let t = same-is us vs (q .1) in
     λ i. record { low = l i; high = h i } ∷ t i
 
 is-same : (c : Box) → sameBox c c ≡ true

@@ -35,7 +35,7 @@ module _ (width : ℕ) (I : Interval) where
       go (Is J) e = is-valid width I J e
       go (Refused r) e = absurd (not-refused r z e)
 
-  pub no-fault : Valid width I → cellFault width I ≡ 0
+  no-fault : Valid width I → cellFault width I ≡ 0
   unfolding cellFault
   no-fault g = ap imageNumber (canonical-is width I g)
 

@@ -1,23 +1,20 @@
 -- Demand 3 of the run: one induction over its steps. Rests on the laws of the narrowing of one sum: no triple is lost, and each end stands in one.
 -- Assumes nothing.
 use mathlib.Core.Path.{_≡_, refl, sym, ap, subst, _∙_}
-use mathlib.Core.Bool.{Bool, true, false, cond}
 use mathlib.Core.List.{List, [], _∷_}
-use Prim.Native.Nat.{ℕ, zero, suc, _+_, _-_, _<_, _≤_}
+use Prim.Native.Nat.{ℕ, zero, suc, _+_, _<_, _≤_}
 use native.Mathlib.Omega.{arith}
-use lib.ListN.{length, getD, set, length-set}
+use lib.ListN.{length, set, length-set}
 use lib.Seq.{getD-set-same, getD-set-other}
 use Rattle.ladder.specs.Solution.{Interval, Solution}
 use Rattle.ladder.specs.Narrowing.{Narrowing, none, ends, narrowing, HasX, HasA, HasB, Hull}
 use Rattle.ladder.proofs.Hull.{narrowing-none, narrowing-hull, hull-x, hull-a, hull-b}
 use Rattle.sheet.specs.declared.kept.Record.{Record}
 use Rattle.sheet.specs.Boxes.{Box, at, Proper, IsBox, Inside, Names}
-use Rattle.sheet.specs.Runs.{Step, unsolved, left, put, stepBy, step, Pass, broken, whole, passBy, passFrom, pass, Ended, settled, stopped, noTriple, sameBox, runBy, runFrom, run, lastBox, endNumber}
-use Rattle.sheet.specs.Consistency.{Stands, Consistent, ConsistentIn, ContainsAll, Demand3}
-use Rattle.sheet.proofs.Boxes.{set-cases, Around, around, contains, around-self, around-all, around-set, set-around, contained-both, same-is}
-
-abbrev noSum : Record
-noSum = record { x = 0; a = 0; b = 0 }
+use Rattle.sheet.specs.Runs.{Step, unsolved, left, put, stepBy, step, Pass, broken, whole, passBy, passFrom, pass, Ended, run, lastBox, endNumber}
+use Rattle.sheet.specs.Consistency.{AllNames, Stands, Consistent, ConsistentIn, ContainsAll, Demand3}
+use Rattle.sheet.proofs.Boxes.{set-cases, Around, around, contains, around-self, around-all, around-set, set-around, contained-both}
+use Rattle.sheet.proofs.Runs.{run-all}
 
 -- ---- a step
 -- a triple of a box is one of every box around it
@@ -122,9 +119,6 @@ solved : (f e : ℕ) (c d : Box) (r : Record) → Stands f e d r → Around c d 
 solved f e c d r s w h = narrowing-none f e _ _ _ h _ _ _ (solution-out (w (r .x)) (w (r .a)) (w (r .b)) (s .x-low .solution))
 
 -- ---- a pass
-abbrev pub AllNames : ℕ → List Record → Type 0
-AllNames n sums = (k : ℕ) → k < length sums → Names n (getD sums k noSum)
-
 module _ (f e : ℕ) where
   -- a step by the narrowing of its sum
   pub step-cases :
@@ -158,7 +152,7 @@ module _ (f e : ℕ) where
       h
 
   -- and its box is one of nonempty intervals
-  pub pass-box : (n : ℕ) (rs : List Record) (k : ℕ) (c d : Box) → AllNames n rs → IsBox f e n c → passFrom f e rs k c ≡ whole d → IsBox f e n d
+  pass-box : (n : ℕ) (rs : List Record) (k : ℕ) (c d : Box) → AllNames n rs → IsBox f e n c → passFrom f e rs k c ≡ whole d → IsBox f e n d
   unfolding passFrom
   pass-box n [] k c d m b h =
       let q : c ≡ d = cc in
@@ -174,7 +168,7 @@ module _ (f e : ℕ) where
   Keeps d (broken k) = ⊥
   Keeps d (whole c) = Around c d
 
-  pub pass-keeps : (rs : List Record) (k : ℕ) (c d : Box) → Consistent f e rs d → Around c d → Keeps d (passFrom f e rs k c)
+  pass-keeps : (rs : List Record) (k : ℕ) (c d : Box) → Consistent f e rs d → Around c d → Keeps d (passFrom f e rs k c)
   unfolding passFrom
   pass-keeps [] k c d s w = w
   pass-keeps (r ∷ rs) k c d s w =
@@ -187,7 +181,7 @@ module _ (f e : ℕ) where
   both c r rs s t zero l = s
   both c r rs s t (suc j) l = t j (omega arith)
 
-  pub pass-still : (rs : List Record) (k : ℕ) (c : Box) → AllNames (length c) rs → passFrom f e rs k c ≡ whole c → Consistent f e rs c
+  pass-still : (rs : List Record) (k : ℕ) (c : Box) → AllNames (length c) rs → passFrom f e rs k c ≡ whole c → Consistent f e rs c
   unfolding passFrom
   pass-still [] k c m h = λ j l. absurd (omega arith)
   pass-still (r ∷ rs) k c m h =
@@ -201,30 +195,6 @@ module _ (f e : ℕ) where
       h
 
 -- ---- a run
--- what holds of each way a run can end holds of its end: Q is what holds of the box that each pass begins with
-module _ (f e : ℕ) (sums : List Record) (Q : Box → Type 0) (P : Ended → Type 0)
-    (next : (c d : Box) → Q c → pass f e sums c ≡ whole d → Q d)
-    (settles : (p : ℕ) (c : Box) → Q c → pass f e sums c ≡ whole c → P (settled p c))
-    (stops : (p : ℕ) (c : Box) → Q c → P (stopped p c))
-    (breaks : (p k : ℕ) (c : Box) → Q c → pass f e sums c ≡ broken k → P (noTriple p k)) where
-  after : (g : Box → Ended) (p : ℕ) (c : Box) → Q c → ((d : Box) → Q d → P (g d)) → P (runBy g p c (pass f e sums c))
-  after g p c q ih = go (pass f e sums c) refl
-    where
-      end : (d : Box) → pass f e sums c ≡ whole d → (t : Bool) → sameBox c d ≡ t → P (cond t (settled p d) (g d))
-      end d h true t =
-          let z : c ≡ d = same-is c d t in
-          settles p d (next c d q h) (subst (λ (b : Box). pass f e sums b ≡ whole d) z h)
-      end d h false t = ih d (next c d q h)
-
-      go : (r : Pass) → pass f e sums c ≡ r → P (runBy g p c r)
-      go (broken k) h = breaks p k c q h
-      go (whole d) h = end d h (sameBox c d) refl
-
-  pub run-all : (more p : ℕ) (c : Box) → Q c → P (runFrom f e sums more p c)
-  unfolding runFrom
-  run-all zero p c q = after (stopped p) p c q (λ d q′. stops p d q′)
-  run-all (suc more) p c q = after (runFrom f e sums more (p + 1)) p c q (λ d q′. run-all more (p + 1) d q′)
-
 -- what the run keeps of a consistent box inside the first
 module _ (f e : ℕ) (sums : List Record) (limit : ℕ) (first : Box) (is : IsBox f e (length first) first) (names : AllNames (length first) sums) where
   -- a box that a pass begins with
@@ -260,7 +230,7 @@ module _ (f e : ℕ) (sums : List Record) (limit : ℕ) (first : Box) (is : IsBo
       (λ p c q h. q .box)
       (λ p c q. q .box)
       (λ p k c q h. is)
-      (limit - 1) 1 first begun
+      limit first begun
 
   -- demand 3
   pub run-demand3 : Demand3 f e sums first (lastBox first (run f e sums limit first)) (endNumber (run f e sums limit first))
@@ -279,4 +249,4 @@ module _ (f e : ℕ) (sums : List Record) (limit : ℕ) (first : Box) (is : IsBo
         stopped = λ z. absurd (omega arith);
         none = λ z b t. subst (Keeps f e b) h (pass-keeps f e sums 0 c b (t .consistent) (q .all b t));
       })
-      (limit - 1) 1 first begun
+      limit first begun

@@ -1,7 +1,7 @@
 -- Places filled one after the other: what the loops that tidy rest on.
 -- Assumes nothing.
-use mathlib.Core.Path.{_≡_, refl, sym, ap, _∙_}
-use mathlib.Core.List.{List, [], _∷_, _++_, map, append-assoc}
+use mathlib.Core.Path.{_≡_, sym, ap, _∙_}
+use mathlib.Core.List.{List, [], _∷_, _++_, map, append-assoc, map-append}
 use Prim.Native.Nat.{ℕ, suc, _+_, _-_, _<_, _≤_}
 use native.Mathlib.Omega.{arith}
 use native.Mathlib.Numerals.{add-one}
@@ -19,10 +19,6 @@ module _ {A B : Type 0} (f : A → B) (v : B) (d : A) where
       let n : length (map f (take i l)) ≡ i = length-map (take i l) f ∙ length-take-le i l (omega arith) in
       rw (m, set-at (map f (take i l)) v (replicate (places - (i + 1)) v) (f (getD l i d)) i n) (last ∙ rw (add-one, take-suc l i d long, map-append))
     where
-      map-append : (xs ys : List A) → map f (xs ++ ys) ≡ map f xs ++ map f ys
-      map-append [] ys = refl
-      map-append (x ∷ xs) ys = ap (λ t. f x ∷ t) (map-append xs ys)
-
       last : map f (take i l) ++ (f (getD l i d) ∷ replicate (places - (i + 1)) v) ≡ (map f (take i l) ++ (f (getD l i d) ∷ [])) ++ replicate (places - (i + 1)) v
       last = sym (append-assoc (map f (take i l)) (f (getD l i d) ∷ []) (replicate (places - (i + 1)) v))
 
@@ -39,10 +35,6 @@ module _ {A B : Type 0} (f : A → B) (v : B) (places n : ℕ) (l : List A) wher
     all-filled le =
         let e : i ≡ n = omega (arith, p .0) in
         p .1 ∙ ap (λ (k : ℕ). filled places v (map f (take k l)) k) e
-
-pub map-same : {A : Type 0} (l : List A) → map (λ (a : A). a) l ≡ l
-map-same [] = refl
-map-same (x ∷ xs) = ap (λ t. x ∷ t) (map-same xs)
 
 pub length-filled : {A : Type 0} (places n : ℕ) (v : A) (l : List A) → length l ≡ n → n ≤ places → length (filled places v l n) ≡ places
 length-filled places n v l e le = length-append l (replicate (places - n) v) ∙ omega (arith, length-replicate (places - n) v)

@@ -17,13 +17,27 @@ use Rattle.sheet.specs.declared.narrowing.Run.{Run}
 use Rattle.sheet.specs.Cells.{fractionOf, exponentOf, boxOf}
 use Rattle.sheet.specs.Sheets.{noSum, places, usedCells, usedSums, tidied, withCells, testOf}
 use Rattle.sheet.specs.Boxes.{Box, IsBox, Names}
-use Rattle.sheet.specs.Runs.{Ended, settled, stopped, noTriple, lastBox, endNumber, endValues}
+use Rattle.sheet.specs.Runs.{Ended, settled, stopped, noTriple, leftBy, lastBox, endNumber, endValues}
+use Rattle.sheet.specs.Consistency.{AllNames}
 use Rattle.sheet.specs.Loops.{EndsAs}
-use Rattle.sheet.specs.Narrowings.{outcomeNumber, outcomeValues, endOf, withBox, ranOn, runAfter, narrowSheetOf, Narrows}
-use Rattle.sheet.proofs.Demand.{AllNames, run-box, run-demand3}
+use Rattle.sheet.specs.Narrowings.{outcomeNumber, outcomeValues, endOf, withBox, outcomeBy, ranOn, runAfter, narrowSheetOf, Narrows}
+use Rattle.sheet.proofs.Demand.{run-box, run-demand3}
 use Rattle.sheet.proofs.Numbers.{test-number}
 use Rattle.sheet.proofs.Places.{box-found}
 use Rattle.sheet.proofs.Tidied.{first-box, sums-name, named}
+
+-- ---- the outcome of a run
+-- its number and values are those of how it ended
+pub told-by : (e : Ended) → (outcomeNumber (outcomeBy e) ≡ endNumber e) × (outcomeValues (outcomeBy e) ≡ endValues e)
+told-by (settled p box) = (refl, refl)
+told-by (stopped p box) = (refl, refl)
+told-by (noTriple p k) = (refl, refl)
+
+-- every number but 0 and 12 leaves what there was
+pub left-by : {A : Type 0} (make : Box → A) (old : A) (e : Ended) → (outcomeNumber (outcomeBy e) ≡ 0 → ⊥) → (outcomeNumber (outcomeBy e) ≡ 12 → ⊥) → leftBy make old e ≡ old
+left-by make old (settled p box) a b = absurd (a refl)
+left-by make old (stopped p box) a b = absurd (b refl)
+left-by make old (noTriple p k) a b = refl
 
 -- ---- the ways out of `finish`
 module _ (s t : Sheet) (h : Halted) (q : t ≡ tidied s) where
@@ -57,23 +71,7 @@ refused-narrows s r t =
 
 -- a sheet that is run
 module _ (s : Sheet) (cells-long : length (s .cells) ≡ 64) (sums-long : length (s .sums) ≡ 128) (t : testOf s ≡ Answer.Done) where
-  -- the number and the box of the answer are the run's
-  number-is : (e : Ended) → endNumber e ≡ outcomeNumber (ranOn s e .outcome)
-  number-is (settled p box) = refl
-  number-is (stopped p box) = refl
-  number-is (noTriple p k) = refl
-
-  values-are : (e : Ended) → endValues e ≡ outcomeValues (ranOn s e .outcome)
-  values-are (settled p box) = refl
-  values-are (stopped p box) = refl
-  values-are (noTriple p k) = refl
-
-  -- only a run that ends with a box changes the sheet
-  kept-as : (e : Ended) → (outcomeNumber (ranOn s e .outcome) ≡ 0 → ⊥) → (outcomeNumber (ranOn s e .outcome) ≡ 12 → ⊥) → ranOn s e .sheet ≡ s
-  kept-as (settled p box) a b = absurd (a refl)
-  kept-as (stopped p box) a b = absurd (b refl)
-  kept-as (noTriple p k) a b = refl
-
+  -- its last box is that of the sheet it leaves
   last-is :
       (e : Ended) → IsBox (fractionOf (s .width)) (exponentOf (s .width)) (s .«cell_count») (lastBox (boxOf (s .width) (usedCells s)) e) →
       lastBox (boxOf (s .width) (usedCells s)) e ≡ boxOf (s .width) (usedCells (ranOn s e .sheet))
@@ -94,10 +92,10 @@ module _ (s : Sheet) (cells-long : length (s .cells) ≡ 64) (sums-long : length
       let box = rw n at (run-box (fractionOf (s .width)) (exponentOf (s .width)) (usedSums s) (s .limit) first is names) in
       record {
         answer = e ∙ ap (λ (a : Answer). runAfter a s) (sym t);
-        told = λ d. rw e (sym (number-is (endOf s)), sym (values-are (endOf s)));
+        told = λ d. rw e (told-by (endOf s));
         refused = λ q u. absurd (let z : _≡_ {A = ℕ} 0 1 = cc in omega arith);
-        kept = subst (λ (u : Run). (outcomeNumber (u .outcome) ≡ 0 → ⊥) → (outcomeNumber (u .outcome) ≡ 12 → ⊥) → u .sheet ≡ s) (sym e) (kept-as (endOf s));
-        demand3 = rw e (rw (← (number-is (endOf s)), ← (last-is (endOf s) box)) whole);
+        kept = subst (λ (u : Run). (outcomeNumber (u .outcome) ≡ 0 → ⊥) → (outcomeNumber (u .outcome) ≡ 12 → ⊥) → u .sheet ≡ s) (sym e) (left-by (withBox s) s (endOf s));
+        demand3 = rw e (rw (told-by (endOf s) .0, ← (last-is (endOf s) box)) whole);
       }
     where
       all : (k : ℕ) → k < s .«sum_count» → Names (length (boxOf (s .width) (usedCells s))) (getD (usedSums s) k noSum)

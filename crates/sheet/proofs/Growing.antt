@@ -19,7 +19,7 @@ use Rattle.sheet.specs.Faults.{headFault, cellFault, sumFault}
 use Rattle.sheet.specs.Sheets.{noCell, noSum, blank, usedCells, usedSums, tidied, firstFault, testOf, Sound, withCell, withSum, openOf, addCellOf, addSumOf}
 use Rattle.sheet.proofs.Firsts.{faultless-at, none-found}
 use Rattle.sheet.proofs.Filling.{length-filled}
-use Rattle.sheet.proofs.Answers.{passed, passes-test, opened, added}
+use Rattle.sheet.proofs.Answers.{all-good, passes-test, opened, added}
 use Rattle.sheet.proofs.Cells.{canonical-faultless}
 use Rattle.sheet.proofs.Sums.{sum-more}
 use Rattle.sheet.proofs.Places.{getD-under}
@@ -37,7 +37,7 @@ record Good (s : Sheet) : Type 0 where
 
 good : (s : Sheet) → Sound s → Good s
 good s h =
-    let p = passed (s .width) (s .limit) (s .«cell_count») (s .«sum_count») (usedCells s) (usedSums s) (h .passes) in
+    let p = all-good (s .width) (s .limit) (s .«cell_count») (s .«sum_count») (usedCells s) (usedSums s) (h .passes) in
     let a = p .few-cells in
     let b = p .few-sums in
     let c = h .cells-long in

@@ -1,14 +1,13 @@
 -- Lent lists and the sheet that they make: the same test, the same run, the same answer.
 -- Assumes nothing.
 use mathlib.Core.Path.{_≡_, refl, sym, ap, subst, _∙_}
-use mathlib.Core.Logic.{inl, inr}
 use mathlib.Core.List.{List, [], _∷_, _++_, append-nil}
 use Prim.Native.Nat.{ℕ, zero, suc, _-_, _<_, _≤_, min}
 use native.Mathlib.Nat.{not-suc-le-zero, le-of-suc-le-suc}
 use native.Mathlib.Omega.{arith}
+use native.Mathlib.Decide.{decLt}
 use lib.ListN.{length, getD, set, take, drop, replicate, length-map, length-replicate}
 use lib.Seq.{take-length, drop-length, take-at}
-use Rattle.ladder.proofs.Cases.{le-or-lt}
 use Rattle.arith.specs.declared.interval.Interval.{Interval}
 use Rattle.arith.specs.declared.refusal.Refusal.{Refusal}
 use Rattle.sheet.specs.declared.kept.Record.{Record}
@@ -29,7 +28,9 @@ use Rattle.sheet.specs.Lists.{Lent, endOfLists, testOfLists, lentBy, len
 use Rattle.sheet.proofs.Answers.{test-head, test-many-cells, test-many-sums}
 use Rattle.sheet.proofs.Filling.{length-filled}
 use Rattle.sheet.proofs.Numbers.{head-small}
-use Rattle.sheet.proofs.Demand.{pass-shrinks, run-all}
+use Rattle.sheet.proofs.Demand.{pass-shrinks}
+use Rattle.sheet.proofs.Runs.{run-all}
+use Rattle.sheet.proofs.Finishing.{told-by, left-by}
 
 -- ---- members put one by one
 module _ {A : Type 0} (d : A) where
@@ -39,7 +40,7 @@ module _ {A : Type 0} (d : A) where
   one-more (x ∷ from) (y ∷ to) zero l m = refl
   one-more (x ∷ from) (y ∷ to) (suc k) l m = ap (λ (t : List A). x ∷ t) (one-more from to k (le-of-suc-le-suc l) (le-of-suc-le-suc m))
 
-  pub puts-is : (from : List A) (n : ℕ) (to : List A) → n ≤ length from → n ≤ length to → puts d from n to ≡ take n from ++ drop n to
+  puts-is : (from : List A) (n : ℕ) (to : List A) → n ≤ length from → n ≤ length to → puts d from n to ≡ take n from ++ drop n to
   puts-is from zero to l m = refl
   puts-is from (suc k) to l m = ap (λ (t : List A). set t k (getD from k d)) (puts-is from k to (omega arith) (omega arith)) ∙ one-more from to k l m
 
@@ -62,7 +63,7 @@ run-sized f e sums limit first =
     (λ p c q h. q)
     (λ p c q. q)
     (λ p k c q h. tt)
-    (limit - 1) 1 first refl
+    limit first refl
 
 -- ---- the answers
 module _ (width limit : ℕ) (ys : List Interval) (zs : List Record) where
@@ -79,23 +80,12 @@ module _ (width limit : ℕ) (ys : List Interval) (zs : List Record) where
   abbrev kept : Run → List Interval
   kept r = storedCells ys (storedCount (r .outcome) (min (length ys) 64)) (r .sheet)
 
-  -- the number and values of the answer are the run's
-  told-by : (E : Ended) → (outcomeNumber (lentBy width ys E .outcome) ≡ endNumber E) × (outcomeValues (lentBy width ys E .outcome) ≡ endValues E)
-  told-by (settled p box) = (refl, refl)
-  told-by (stopped p box) = (refl, refl)
-  told-by (noTriple p k) = (refl, refl)
-
   -- an answer leaves the cells as they were under every refusal but 12
   abbrev Leaves : Outcome → List Interval → Type 0
   Leaves o after = (outcomeNumber o ≡ 0 → ⊥) → (outcomeNumber o ≡ 12 → ⊥) → after ≡ ys
 
-  left-by : (E : Ended) → Leaves (lentBy width ys E .outcome) (lentBy width ys E .cells)
-  left-by (settled p box) a b = absurd (a refl)
-  left-by (stopped p box) a b = absurd (b refl)
-  left-by (noTriple p k) a b = refl
-
   left-after : (a : Answer) → Leaves (lentAfter a width limit ys zs .outcome) (lentAfter a width limit ys zs .cells)
-  left-after Done = left-by ended
+  left-after Done = left-by (cellsOf width) ys ended
   left-after (Refused q) = λ a b. refl
 
   -- so of every outcome and cells that are the answer's
@@ -203,16 +193,17 @@ module _ (width limit : ℕ) (ys : List Interval) (zs : List Record) where
   -- what the walk leaves is what the lists' answer says
   pub lists-narrow : (r : Run) → Narrows made r → NarrowsLists width limit ys zs (kept r) (r .outcome)
   lists-narrow r h =
-      elim (le-or-lt 1 (headFault width limit)) [
-        | inl bad ↦ refused (record { number = headFault width limit; place = 0 }) (λ cells sums. test-head width limit (length ys) (length zs) cells sums (λ z. omega (arith, bad, z))) bad (omega (arith, head-small width limit)) r h
-        | inr good ↦
+      elim (decLt 0 (headFault width limit)) [
+        | yes bad ↦ refused (record { number = headFault width limit; place = 0 }) (λ cells sums. test-head width limit (length ys) (length zs) cells sums (λ z. omega (arith, bad, z))) bad (omega (arith, head-small width limit)) r h
+        | no good ↦
             let z : headFault width limit ≡ 0 = omega (arith, good) in
-            elim (le-or-lt (length ys) 64) [
-              | inl few-cells ↦
-                  elim (le-or-lt (length zs) 128) [
-                    | inl few-sums ↦ placed few-cells few-sums r h
-                    | inr many ↦ refused (record { number = 10; place = 128 }) (λ cells sums. test-many-sums width limit (length ys) (length zs) cells sums z few-cells many) (omega arith) (omega arith) r h
+            elim (decLt 64 (length ys)) [
+              | yes many ↦ refused (record { number = 10; place = 64 }) (λ cells sums. test-many-cells width limit (length ys) (length zs) cells sums z many) (omega arith) (omega arith) r h
+              | no few ↦
+                  let few-cells : length ys ≤ 64 = omega (arith, few) in
+                  elim (decLt 128 (length zs)) [
+                    | yes many ↦ refused (record { number = 10; place = 128 }) (λ cells sums. test-many-sums width limit (length ys) (length zs) cells sums z few-cells many) (omega arith) (omega arith) r h
+                    | no few-sums ↦ placed few-cells (omega (arith, few-sums)) r h
                   ]
-              | inr many ↦ refused (record { number = 10; place = 64 }) (λ cells sums. test-many-cells width limit (length ys) (length zs) cells sums z many) (omega arith) (omega arith) r h
             ]
       ]

@@ -1,17 +1,16 @@
 -- A run ends settled exactly when an allowed pass is the first to run through and move no end, stopped exactly when every allowed pass ran through and moved one,
 -- and with 'no triple' exactly when an allowed pass meets a sum with no triple. Assumes nothing.
 use mathlib.Core.Path.{_≡_, refl, subst, _∙_}
-use mathlib.Core.Bool.{Bool, true, false, cond}
 use mathlib.Core.List.{List}
 use mathlib.Core.Logic.{_↔_}
-use Prim.Native.Nat.{ℕ, zero, suc, _+_, _-_, _≤_}
+use Prim.Native.Nat.{ℕ, _-_, _≤_}
 use native.Mathlib.Omega.{arith}
 use Rattle.sheet.specs.declared.kept.Record.{Record}
 use Rattle.sheet.specs.Boxes.{Box}
-use Rattle.sheet.specs.Runs.{Pass, broken, whole, pass, Ended, settled, stopped, noTriple, sameBox, runBy, runFrom, run}
+use Rattle.sheet.specs.Runs.{Ended, settled, stopped, noTriple, runFrom, run}
 use Rattle.sheet.specs.Outcomes.{Begins, start, next, Settles, Stops, Breaks}
-use Rattle.sheet.proofs.Boxes.{same-is, same-not, equal-same, unequal-same}
-use Rattle.sheet.proofs.Runs.{run-broken, run-settled, run-stopped, run-next}
+use Rattle.sheet.proofs.Boxes.{equal-same, unequal-same}
+use Rattle.sheet.proofs.Runs.{run-broken, run-settled, run-stopped, run-next, run-ends}
 
 module _ (f e : ℕ) (sums : List Record) (limit : ℕ) (first : Box) (some : 1 ≤ limit) where
   -- ---- every end is one of the three
@@ -20,28 +19,14 @@ module _ (f e : ℕ) (sums : List Record) (limit : ℕ) (first : Box) (some : 1 
   Ends (stopped p box) = Stops f e sums limit first p box
   Ends (noTriple p k) = Breaks f e sums limit first p k
 
-  after :
-      (g : Box → Ended) (p : ℕ) (c : Box) → p ≤ limit → Begins f e sums first p c →
-      ((d : Box) → pass f e sums c ≡ whole d → (c ≡ d → ⊥) → Ends (g d)) → Ends (runBy g p c (pass f e sums c))
-  after g p c le b more = go (pass f e sums c) refl
-    where
-      end : (d : Box) → pass f e sums c ≡ whole d → (t : Bool) → sameBox c d ≡ t → Ends (cond t (settled p d) (g d))
-      end d h true t =
-          let z : c ≡ d = same-is c d t in
-          record { allowed = le; begins = subst (Begins f e sums first p) z b; still = subst (λ (i : Box). pass f e sums i ≡ whole d) z h }
-      end d h false t = more d h (same-not c d t)
-
-      go : (r : Pass) → pass f e sums c ≡ r → Ends (runBy g p c r)
-      go (broken k) h = record { before = c; allowed = le; begins = b; breaks = h }
-      go (whole d) h = end d h (sameBox c d) refl
-
-  ends-from : (more p : ℕ) (c : Box) → p + more ≡ limit → Begins f e sums first p c → Ends (runFrom f e sums more p c)
-  unfolding runFrom
-  ends-from zero p c l b = after (stopped p) p c (omega arith) b (λ d h m. record { before = c; last = omega arith; begins = b; through = h; moved = m })
-  ends-from (suc more) p c l b = after (runFrom f e sums more (p + 1)) p c (omega arith) b (λ d h m. ends-from more (p + 1) d (omega arith) (next b h m))
-
   ends : Ends (run f e sums limit first)
-  ends = ends-from (limit - 1) 1 first (omega arith) start
+  ends =
+      run-ends f e sums limit (λ p c. (p ≤ limit) × Begins f e sums first p c) Ends
+      (λ p c d q l h m. (omega arith, next (q .1) h m))
+      (λ p c q h. record { allowed = q .0; begins = q .1; still = h })
+      (λ p c d q l h m. record { before = c; last = omega (arith, q .0); begins = q .1; through = h; moved = m })
+      (λ p k c q h. record { before = c; allowed = q .0; begins = q .1; breaks = h })
+      first (some, start)
 
   -- ---- and each of the three is an end: from a pass that is reached on
   reaches : {p : ℕ} {c : Box} → p ≤ limit → Begins f e sums first p c → run f e sums limit first ≡ runFrom f e sums (limit - p) p c

@@ -37,7 +37,7 @@ first-after fault i [] = refl
 first-after fault i (v ∷ vs) = both-after (faultless (fault v) i ∷ []) (allFaultless fault (i + 1) vs) refl (first-after fault (i + 1) vs)
 
 -- the test of lists, and so of a sheet
-pub lists-after : (width limit m n : ℕ) (cells : List Interval) (sums : List Record) → testLists width limit m n cells sums ≡ answerAfter (listTests width limit m n cells sums)
+lists-after : (width limit m n : ℕ) (cells : List Interval) (sums : List Record) → testLists width limit m n cells sums ≡ answerAfter (listTests width limit m n cells sums)
 unfolding testLists
 lists-after width limit m n cells sums =
     let good = allFaultless (cellFault width) 0 cells in

@@ -1,7 +1,7 @@
--- The run one pass after the other, and a pass one sum after the other: what the loops rest on.
+-- The run one pass after the other, and a pass one sum after the other: what the loops rest on; and the induction over a run.
 -- Assumes nothing.
-use mathlib.Core.Path.{_≡_, _∙_}
-use mathlib.Core.Bool.{true, false}
+use mathlib.Core.Path.{_≡_, refl, subst, _∙_}
+use mathlib.Core.Bool.{Bool, true, false, cond}
 use mathlib.Core.List.{List}
 use Prim.Native.Nat.{ℕ, zero, suc, _+_, _-_, _<_, _≤_}
 use native.Mathlib.Omega.{arith}
@@ -10,8 +10,9 @@ use lib.ListN.{length, getD, take, drop, length-take, drop-of-length-le}
 use lib.Seq.{drop-cons, getD-take}
 use Rattle.sheet.specs.declared.kept.Record.{Record}
 use Rattle.sheet.specs.Boxes.{Box}
-use Rattle.sheet.specs.Runs.{unsolved, left, step, broken, whole, passBy, passFrom, pass, settled, stopped, noTriple, sameBox, runFrom}
+use Rattle.sheet.specs.Runs.{unsolved, left, step, Pass, broken, whole, passBy, passFrom, pass, Ended, settled, stopped, noTriple, sameBox, runBy, runFrom, run}
 use Rattle.sheet.specs.Sheets.{noSum}
+use Rattle.sheet.proofs.Boxes.{same-is, same-not}
 
 -- ---- sum k of the first n of a list
 module _ (f e : ℕ) (l : List Record) (n k : ℕ) (c : Box) where
@@ -56,3 +57,46 @@ module _ (f e : ℕ) (sums : List Record) (p : ℕ) (c : Box) where
   run-next limit d h t lt =
       let m : limit - p ≡ suc (limit - (p + 1)) = omega arith in
       rw (m, h, t)
+
+-- ---- the induction over a run: what holds of each way it can end holds of its end
+-- Q is what holds of a pass and the box that it begins with
+module _ (f e : ℕ) (sums : List Record) (limit : ℕ) (Q : ℕ → Box → Type 0) (P : Ended → Type 0)
+    (next : (p : ℕ) (c d : Box) → Q p c → p < limit → pass f e sums c ≡ whole d → (c ≡ d → ⊥) → Q (p + 1) d)
+    (settles : (p : ℕ) (c : Box) → Q p c → pass f e sums c ≡ whole c → P (settled p c))
+    (stops : (p : ℕ) (c d : Box) → Q p c → limit ≤ p → pass f e sums c ≡ whole d → (c ≡ d → ⊥) → P (stopped p d))
+    (breaks : (p k : ℕ) (c : Box) → Q p c → pass f e sums c ≡ broken k → P (noTriple p k)) where
+  after : (g : Box → Ended) (p : ℕ) (c : Box) → Q p c → ((d : Box) → pass f e sums c ≡ whole d → (c ≡ d → ⊥) → P (g d)) → P (runBy g p c (pass f e sums c))
+  after g p c q more = go (pass f e sums c) refl
+    where
+      end : (d : Box) → pass f e sums c ≡ whole d → (t : Bool) → sameBox c d ≡ t → P (cond t (settled p d) (g d))
+      end d h true t =
+          let z : c ≡ d = same-is c d t in
+          settles p d (subst (Q p) z q) (subst (λ (b : Box). pass f e sums b ≡ whole d) z h)
+      end d h false t = more d h (same-not c d t)
+
+      go : (r : Pass) → pass f e sums c ≡ r → P (runBy g p c r)
+      go (broken k) h = breaks p k c q h
+      go (whole d) h = end d h (sameBox c d) refl
+
+  from : (more p : ℕ) (c : Box) → limit - p ≡ more → Q p c → P (runFrom f e sums more p c)
+  unfolding runFrom
+  from zero p c l q = after (stopped p) p c q (λ d h m. stops p c d q (omega arith) h m)
+  from (suc more) p c l q = after (runFrom f e sums more (p + 1)) p c q (λ d h m. from more (p + 1) d (omega arith) (next p c d q (omega arith) h m))
+
+  pub run-ends : (first : Box) → Q 1 first → P (run f e sums limit first)
+  run-ends first q = from (limit - 1) 1 first refl q
+
+-- the same where Q is of the box alone
+module _ (f e : ℕ) (sums : List Record) (Q : Box → Type 0) (P : Ended → Type 0)
+    (next : (c d : Box) → Q c → pass f e sums c ≡ whole d → Q d)
+    (settles : (p : ℕ) (c : Box) → Q c → pass f e sums c ≡ whole c → P (settled p c))
+    (stops : (p : ℕ) (c : Box) → Q c → P (stopped p c))
+    (breaks : (p k : ℕ) (c : Box) → Q c → pass f e sums c ≡ broken k → P (noTriple p k)) where
+  pub run-all : (limit : ℕ) (first : Box) → Q first → P (run f e sums limit first)
+  run-all limit first =
+      run-ends f e sums limit (λ p c. Q c) P
+      (λ p c d q l h m. next c d q h)
+      settles
+      (λ p c d q l h m. stops p d (next c d q h))
+      breaks
+      first

@@ -33,7 +33,7 @@ names-of n r e =
       a-b = eqb-false _ _ (g .0);
     }
 
-pub of-names : (n : ℕ) (r : Record) → Names n r → sumFault n r ≡ 0
+of-names : (n : ℕ) (r : Record) → Names n r → sumFault n r ≡ 0
 unfolding sumFault
 of-names n r m =
     simp (lt-leb n (r .x) (m .x-in), lt-leb n (r .a) (m .a-in), lt-leb n (r .b) (m .b-in), ne-eqb (r .x) (r .a) (m .x-a), ne-eqb (r .x) (r .b) (m .x-b), ne-eqb (r .a) (r .b) (m .a-b))

@@ -2,7 +2,7 @@
 -- Assumes nothing.
 use mathlib.Core.Path.{_≡_, refl, sym, ap, ap₂, subst, _∙_}
 use mathlib.Core.Bool.{Bool, true, false, cond}
-use mathlib.Core.List.{List, [], _∷_, map}
+use mathlib.Core.List.{List, map-map}
 use Prim.Native.Nat.{ℕ, _-_, _<_, _≤_}
 use native.Mathlib.Omega.{arith}
 use lib.ListN.{length, getD, take, replicate, length-map}
@@ -22,7 +22,7 @@ use Rattle.sheet.specs.Boxes.{Box, at, Proper, IsBox, Names}
 use Rattle.sheet.specs.Runs.{run}
 use Rattle.sheet.specs.Loops.{boxIn, Shows, Ready}
 use Rattle.sheet.specs.Narrowings.{endOf}
-use Rattle.sheet.proofs.Answers.{Passed, passed}
+use Rattle.sheet.proofs.Answers.{AllGood, all-good}
 use Rattle.sheet.proofs.Firsts.{faultless-at}
 use Rattle.sheet.proofs.Cells.{fault-free}
 use Rattle.sheet.proofs.Sums.{names-of}
@@ -47,14 +47,10 @@ good-head width limit = go (isKnown width) refl (ltb limit 1) refl (ltb 65535 li
         let m = ltb-false 65535 limit o in
         record { known = p; some = omega arith; few = omega arith }
 
-map-twice : {A B C : Type 0} (g : B → C) (f : A → B) (l : List A) → map g (map f l) ≡ map (λ (a : A). g (f a)) l
-map-twice g f [] = refl
-map-twice g f (x ∷ xs) = ap (λ (t : List _). g (f x) ∷ t) (map-twice g f xs)
-
 -- ---- the sheet's lists are as long as its arrays
 module _ (s : Sheet) (cells-long : length (s .cells) ≡ 64) (sums-long : length (s .sums) ≡ 128) (t : testOf s ≡ Done) where
-  seen : Passed (s .width) (s .limit) (s .«cell_count») (s .«sum_count») (usedCells s) (usedSums s)
-  seen = passed (s .width) (s .limit) (s .«cell_count») (s .«sum_count») (usedCells s) (usedSums s) t
+  seen : AllGood (s .width) (s .limit) (s .«cell_count») (s .«sum_count») (usedCells s) (usedSums s)
+  seen = all-good (s .width) (s .limit) (s .«cell_count») (s .«sum_count») (usedCells s) (usedSums s) t
 
   head : GoodHead (s .width) (s .limit)
   head = good-head (s .width) (s .limit) (seen .head)
@@ -91,9 +87,9 @@ module _ (s : Sheet) (cells-long : length (s .cells) ≡ 64) (sums-long : length
   -- ---- tidied
   tidied-cells : tidied s .cells ≡ places (s .width) (s .«cell_count») (boxOf (s .width) (usedCells s))
   unfolding tidied
-  tidied-cells = ap (λ (l : List Interval). filled 64 noCell l (s .«cell_count»)) (sym (map-twice (patternsOf (s .width)) (ordinalsOf (s .width)) (usedCells s)))
+  tidied-cells = ap (λ (l : List Interval). filled 64 noCell l (s .«cell_count»)) (sym (map-map (patternsOf (s .width)) (ordinalsOf (s .width)) (usedCells s)))
 
-  pub tidied-sums : usedSums (tidied s) ≡ usedSums s
+  tidied-sums : usedSums (tidied s) ≡ usedSums s
   unfolding tidied
   tidied-sums = take-at (usedSums s) (replicate (128 - s .«sum_count») noSum) (s .«sum_count») named
 

@@ -10,8 +10,8 @@ use Rattle.sheet.specs.Boxes.{Box, at}
 use Rattle.sheet.specs.Runs.{put, whole, passBy, passFrom, settled, run, lastBox}
 use Rattle.sheet.specs.Outcomes.{Spares, Unnamed}
 use Rattle.sheet.proofs.Boxes.{set-cases, equal-same}
-use Rattle.sheet.proofs.Demand.{step-cases, run-all}
-use Rattle.sheet.proofs.Runs.{run-settled}
+use Rattle.sheet.proofs.Demand.{step-cases}
+use Rattle.sheet.proofs.Runs.{run-settled, run-all}
 
 -- no sums: settled after pass 1
 pub run-no-sums : (f e limit : ℕ) (first : Box) → run f e [] limit first ≡ settled 1 first
@@ -47,4 +47,4 @@ module _ (f e i : ℕ) where
       (λ p c q h. q)
       (λ p c q. q)
       (λ p k c q h. refl)
-      (limit - 1) 1 first refl
+      limit first refl

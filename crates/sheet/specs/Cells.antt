@@ -4,7 +4,7 @@ use Prim.Native.Nat.{ℕ}
 use Rattle.ladder.specs.Solution as L
 use Rattle.arith.specs.declared.interval.Interval.{Interval}
 use Rattle.arith.specs.Formats.{formatOf}
-use Rattle.arith.specs.Intervals.{rangeOf}
+use Rattle.arith.specs.Intervals.{rangeOf, span}
 use Rattle.arith.specs.Narrows.{written}
 use Rattle.sheet.specs.Boxes.{Box}
 
@@ -18,9 +18,7 @@ exponentOf width = formatOf width .exponent
 
 -- a cell by the ordinals of its ends
 abbrev pub ordinalsOf : ℕ → Interval → L.Interval
-ordinalsOf width I =
-    let R = rangeOf (formatOf width) I in
-    record { low = R .low; high = R .high }
+ordinalsOf width I = span (rangeOf (formatOf width) I)
 
 -- and back, each end in its one pattern
 abbrev pub patternsOf : ℕ → L.Interval → Interval

@@ -5,7 +5,16 @@ use Prim.Native.Nat.{ℕ, _<_}
 use lib.ListN.{length, getD}
 use Rattle.ladder.specs.Narrowing.{HasX, HasA, HasB}
 use Rattle.sheet.specs.declared.kept.Record.{Record}
-use Rattle.sheet.specs.Boxes.{Box, at, IsBox, Contains}
+use Rattle.sheet.specs.Boxes.{Box, at, IsBox, Contains, Names}
+use Rattle.sheet.specs.Sheets.{noSum}
+
+-- each sum of a sheet has the property
+abbrev pub Each : (Record → Type 0) → List Record → Type 0
+Each P sums = (k : ℕ) → k < length sums → P (getD sums k noSum)
+
+-- each sum names three of the n cells: refusals 5 and 6 are for every other list
+abbrev pub AllNames : ℕ → List Record → Type 0
+AllNames n sums = Each (Names n) sums
 
 -- each end of the sum's three intervals stands in a triple of that sum inside the box
 pub record Stands (f e : ℕ) (box : Box) (r : Record) : Type 0 where
@@ -18,7 +27,7 @@ pub record Stands (f e : ℕ) (box : Box) (r : Record) : Type 0 where
 
 -- 01's steady box: so for every sum
 abbrev pub Consistent : ℕ → ℕ → List Record → Box → Type 0
-Consistent f e sums box = (k : ℕ) → k < length sums → Stands f e box (getD sums k (record { x = 0; a = 0; b = 0 }))
+Consistent f e sums box = Each (Stands f e box) sums
 
 -- a consistent box that the first one contains
 pub record ConsistentIn (f e : ℕ) (sums : List Record) (first box : Box) : Type 0 where

@@ -9,12 +9,12 @@ use Rattle.sheet.specs.declared.kept.Record.{Record}
 use Rattle.sheet.specs.declared.kept.Answer.{Answer}
 use Rattle.sheet.specs.declared.kept.Answer.the-variants as Answer
 use Rattle.sheet.specs.declared.passes.Outcome.{Outcome}
-use Rattle.sheet.specs.declared.passes.Outcome.the-variants.{Settled, NoTriple, Stopped, Refused}
+use Rattle.sheet.specs.declared.passes.Outcome.the-variants.{Refused}
 use Rattle.sheet.specs.Sheets.{testLists}
-use Rattle.sheet.specs.Runs.{Ended, settled, stopped, noTriple, run, endNumber, endValues}
+use Rattle.sheet.specs.Runs.{Ended, run, leftBy, endNumber, endValues}
 use Rattle.sheet.specs.Consistency.{Demand3}
 use Rattle.sheet.specs.Cells.{fractionOf, exponentOf, boxOf, cellsOf}
-use Rattle.sheet.specs.Narrowings.{outcomeNumber, outcomeValues}
+use Rattle.sheet.specs.Narrowings.{outcomeNumber, outcomeValues, outcomeBy}
 
 -- the outcome of a call, and what the lent cells then hold
 pub record Lent : Type 0 where
@@ -27,9 +27,7 @@ endOfLists width limit cells sums = run (fractionOf width) (exponentOf width) su
 
 -- the answer of a run that ended so: its box, each end in its one pattern; under 'no triple' the cells as they were
 abbrev pub lentBy : ℕ → List Interval → Ended → Lent
-lentBy width cells (settled p box) = record { outcome = Settled p; cells = cellsOf width box }
-lentBy width cells (stopped p box) = record { outcome = Stopped p; cells = cellsOf width box }
-lentBy width cells (noTriple p k) = record { outcome = NoTriple p k; cells = cells }
+lentBy width cells e = record { outcome = outcomeBy e; cells = leftBy (cellsOf width) cells e }
 
 -- the lists' test
 abbrev pub testOfLists : ℕ → ℕ → List Interval → List Record → Answer

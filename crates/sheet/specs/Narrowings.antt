@@ -11,7 +11,7 @@ use Rattle.sheet.specs.declared.passes.Outcome.the-variants.{Settled, No
 use Rattle.sheet.specs.declared.narrowing.Run.{Run}
 use Rattle.sheet.specs.Sheets.{places, usedCells, usedSums, tidied, withCells, testOf}
 use Rattle.sheet.specs.Boxes.{Box}
-use Rattle.sheet.specs.Runs.{Ended, settled, stopped, noTriple, run, endNumber, endValues}
+use Rattle.sheet.specs.Runs.{Ended, settled, stopped, noTriple, run, leftBy, endNumber, endValues}
 use Rattle.sheet.specs.Consistency.{Demand3}
 use Rattle.sheet.specs.Cells.{fractionOf, exponentOf, boxOf}
 
@@ -37,11 +37,15 @@ endOf s = run (fractionOf (s .width)) (exponentOf (s .width)) (usedSums s) (s .l
 abbrev pub withBox : Sheet → Box → Sheet
 withBox s box = withCells (tidied s) (places (s .width) (s .«cell_count») box)
 
--- the answer of a run that ended so: under 'no triple' the sheet as it came
+-- the outcome of a run that ended so
+abbrev pub outcomeBy : Ended → Outcome
+outcomeBy (settled p box) = Settled p
+outcomeBy (stopped p box) = Stopped p
+outcomeBy (noTriple p k) = NoTriple p k
+
+-- its answer: the sheet with its box; under 'no triple' the sheet as it came
 abbrev pub ranOn : Sheet → Ended → Run
-ranOn s (settled p box) = record { sheet = withBox s box; outcome = Settled p }
-ranOn s (stopped p box) = record { sheet = withBox s box; outcome = Stopped p }
-ranOn s (noTriple p k) = record { sheet = s; outcome = NoTriple p k }
+ranOn s e = record { sheet = leftBy (withBox s) s e; outcome = outcomeBy e }
 
 -- the sheet's own test first, then the run from its cells in use
 abbrev pub runAfter : Answer → Sheet → Run

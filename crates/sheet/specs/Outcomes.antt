@@ -1,13 +1,12 @@
--- When a run ends as it does, pass by pass; and that no sum names a cell. Assumes nothing.
+-- When a run ends as it does, pass by pass; and 01's cells that no sum names. Assumes nothing.
 use mathlib.Core.Path.{_≡_}
 use mathlib.Core.Logic.{_≢_}
 use mathlib.Core.List.{List}
-use Prim.Native.Nat.{ℕ, _+_, _<_, _≤_}
-use lib.ListN.{length, getD}
+use Prim.Native.Nat.{ℕ, _+_, _≤_}
 use Rattle.sheet.specs.declared.kept.Record.{Record}
 use Rattle.sheet.specs.Boxes.{Box}
-use Rattle.sheet.specs.Sheets.{noSum}
 use Rattle.sheet.specs.Runs.{broken, whole, pass}
+use Rattle.sheet.specs.Consistency.{Each}
 
 -- pass p begins with the box: every pass before it ran through and moved an end
 pub data Begins (f e : ℕ) (sums : List Record) (first : Box) : ℕ → Box → Type 0 where
@@ -43,4 +42,4 @@ pub record Spares (i : ℕ) (r : Record) : Type 0 where
 
 -- 01: no sum names cell i
 abbrev pub Unnamed : ℕ → List Record → Type 0
-Unnamed i sums = (k : ℕ) → k < length sums → Spares i (getD sums k noSum)
+Unnamed i sums = Each (Spares i) sums

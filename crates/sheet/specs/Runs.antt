@@ -62,25 +62,29 @@ sameBox [] (J ∷ js) = false
 sameBox (I ∷ is) [] = false
 sameBox (I ∷ is) (J ∷ js) = eqb (I .low) (J .low) && (eqb (I .high) (J .high) && sameBox is js)
 
--- after pass p, which began with the box: equal, the run ends settled; unequal, it goes on
+-- after pass p, which began with the box: a sum without a triple ends the run; equal, it ends settled; unequal, it goes on
 abbrev pub runBy : (Box → Ended) → ℕ → Box → Pass → Ended
 runBy next p box (broken k) = noTriple p k
 runBy next p box (whole new) = cond (sameBox box new) (settled p new) (next new)
 
--- pass p, and at most so many passes after it
+-- pass p, and at most so many after it; unequal with none left, it ends stopped at p
 unfoldable pub runFrom : ℕ → ℕ → List Record → ℕ → ℕ → Box → Ended
 runFrom f e sums zero p box = runBy (stopped p) p box (pass f e sums box)
 runFrom f e sums (suc more) p box = runBy (runFrom f e sums more (p + 1)) p box (pass f e sums box)
 
--- the run from the box first given: passes count from 1 up to the limit
+-- the run from the box first given: passes count from 1 up to the limit (limit 0 is refusal 7)
 abbrev pub run : ℕ → ℕ → List Record → ℕ → Box → Ended
 run f e sums limit first = runFrom f e sums (limit - 1) 1 first
 
+-- what it leaves: what is made of its box; under 'no triple' what there was
+abbrev pub leftBy : {A : Type 0} → (Box → A) → A → Ended → A
+leftBy make old (settled p box) = make box
+leftBy make old (stopped p box) = make box
+leftBy make old (noTriple p k) = old
+
 -- the box that the cells then hold: under 'no triple' the one first given
 abbrev pub lastBox : Box → Ended → Box
-lastBox first (settled p box) = box
-lastBox first (stopped p box) = box
-lastBox first (noTriple p k) = first
+lastBox first e = leftBy (λ (box : Box). box) first e
 
 -- 01's number: 0 settled, 12 stopped, 11 no triple
 abbrev pub endNumber : Ended → ℕ

@@ -24,7 +24,7 @@ noCell = record { low = 0; high = 0 }
 abbrev pub noSum : Record
 noSum = record { x = 0; a = 0; b = 0 }
 
--- so many places, of which the first hold a list and the others v
+-- so many places, of which the first n hold a list, n its length, and the others v
 abbrev pub filled : {A : Type 0} → ℕ → A → List A → ℕ → List A
 filled places v l n = l ++ replicate (places - n) v
 

@@ -30,7 +30,7 @@ pub enum Answer {
     Refused(Refusal),
 }
 
-// The sheet after a call, with its answer. A refusal leaves the sheet as it came.
+// The sheet after a call, with its answer. A refused addition leaves the sheet as it came; a refused opening or text gives the blank one.
 pub struct Kept {
     pub sheet: Sheet,
     pub answer: Answer,

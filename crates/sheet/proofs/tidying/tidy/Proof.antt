@@ -1,6 +1,6 @@
 -- `tidy` meets its contract: what the test has seen is what tidying asks.
 -- Assumes nothing.
-use Rattle.sheet.proofs.Answers.{passed}
+use Rattle.sheet.proofs.Answers.{all-good}
 use Rattle.sheet.specs.Sheets.{usedCells, usedSums, tidied}
 use Rattle.sheet.proofs.tidying.tidy.Statement.{statement}
 use Rattle.sheet.proofs.tidying.tidy.Tie as tie
@@ -8,13 +8,13 @@ use Rattle.sheet.proofs.tidying.tidy.Tie as tie
 tidy-cells-requires : tie.Need-tidy-cells-requires
 tidy-cells-requires c κs =
     let s = c .before .args .sheet in
-    let p = passed (s .width) (s .limit) (s .«cell_count») (s .«sum_count») (usedCells s) (usedSums s) (c .before .pre) in
+    let p = all-good (s .width) (s .limit) (s .«cell_count») (s .«sum_count») (usedCells s) (usedSums s) (c .before .pre) in
     (p .few-cells, p .cells-good)
 
 tidy-sums-requires : tie.Need-tidy-sums-requires
 tidy-sums-requires c κs =
     let s = c .before .before .before .args .sheet in
-    passed (s .width) (s .limit) (s .«cell_count») (s .«sum_count») (usedCells s) (usedSums s) (c .before .before .before .pre) .few-sums
+    all-good (s .width) (s .limit) (s .«cell_count») (s .«sum_count») (usedCells s) (usedSums s) (c .before .before .before .pre) .few-sums
 
 returns : tie.Need-returns
 unfolding tidied

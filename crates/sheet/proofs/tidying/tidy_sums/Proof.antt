@@ -2,11 +2,11 @@
 -- Assumes nothing.
 use native.Mathlib.Omega.{arith}
 use borrow.Author.Needs.{needs}
-use Rattle.sheet.proofs.Filling.{Filled, fills, all-filled, map-same}
+use Rattle.sheet.proofs.Filling.{Filled, fills, all-filled}
 use Rattle.sheet.specs.Sheets.{noSum, filled}
 use Rattle.sheet.specs.declared.kept.Record.{Record}
 use lib.ListN.{length, take}
-use mathlib.Core.List.{List}
+use mathlib.Core.List.{List, map-id}
 use Prim.Native.Nat.{_-_}
 use mathlib.Core.Path.{_≡_, refl, ap, _∙_}
 use Rattle.sheet.proofs.tidying.tidy_sums.Statement.{statement}
@@ -32,7 +32,7 @@ returns : tie.Need-returns Inv-loop μ-loop
 returns c =
     let s = c .before .before .args in
     let l = c .before .loop in
-    all-filled (λ (r : Record). r) noSum 128 (s .count) (s .t2) (l .k) (l .out) (l .inv) (omega arith) ∙ ap (λ (t : List Record). filled 128 noSum t (s .count)) (map-same (take (s .count) (s .t2)))
+    all-filled (λ (r : Record). r) noSum 128 (s .count) (s .t2) (l .k) (l .out) (l .inv) (omega arith) ∙ ap (λ (t : List Record). filled 128 noSum t (s .count)) (map-id (take (s .count) (s .t2)))
 
 pub tidy-sums-spec : {M : Type 1} → statement M
 tidy-sums-spec =
