@@ -225,48 +225,48 @@ module _ (f e : ℕ) (some : 1 ≤ f) where
         nb : Bounded f e B
         nb = record { low = n; high = n }
 
-        positive-case : s < b → AtMost f e (A .low) b X t → AtMost f e (X .low) b A t → t ≤ sum f e x a
-        positive-case up (none q) m = absurd (q (X .high) (record { inside = record { low = omega arith; high = le-refl (X .high) }; enough = r2 }))
-        positive-case up (least y l h) (none q) = absurd (q (A .high) (record { inside = record { low = omega arith; high = le-refl (A .high) }; enough = omega (arith, r1, sum-comm f e (A .high) (X .low)) }))
-        positive-case up (least y l h) (least z m k) = elim (le-or-lt s (x - 1)) [
-          | inl o ↦ elim (le-or-lt s (a - 1)) [
-            | inl o' ↦ elim (le-or-lt (x - 1) a) [
-              | inl q ↦ absurd (skips-none f e some B nb (le-refl b) a (x - 1) o q k1)
-              | inr q ↦ absurd (skips-none f e some B nb (le-refl b) x (a - 1) o' (omega arith) k2)
+        -- with the least that reach b at the two low ends
+        module _ (y z : ℕ) (l : Least (Attains f e (A .low) b X) y) (h : t ≤ sum f e y (A .low)) (m : Least (Attains f e (X .low) b A) z) (k : t ≤ sum f e z (X .low)) where
+          positive-case : s < b → t ≤ sum f e x a
+          positive-case up = elim (le-or-lt s (x - 1)) [
+            | inl o ↦ elim (le-or-lt s (a - 1)) [
+              | inl o' ↦ elim (le-or-lt (x - 1) a) [
+                | inl q ↦ absurd (skips-none f e some B nb (le-refl b) a (x - 1) o q k1)
+                | inr q ↦ absurd (skips-none f e some B nb (le-refl b) x (a - 1) o' (omega arith) k2)
+              ]
+              | inr o' ↦ omega (arith, low-best A X na nx swapped up z m a x j i ha hx (omega arith) (omega (arith, sum-comm f e x a)) k2 (omega (arith, sum-comm f e (x - 1) a)), k, sum-comm f e a x)
             ]
-            | inr o' ↦ omega (arith, low-best A X na nx swapped up z m a x j i ha hx (omega arith) (omega (arith, sum-comm f e x a)) k2 (omega (arith, sum-comm f e (x - 1) a)), k, sum-comm f e a x)
+            | inr o ↦ omega (arith, low-best X A nx na no-sum up y l x a i j hx ha (omega arith) g k1 w, h)
           ]
-          | inr o ↦ omega (arith, low-best X A nx na no-sum up y l x a i j hx ha (omega arith) g k1 w, h)
-        ]
 
-        negative-case : b < s → AtMost f e (A .low) b X t → AtMost f e (X .low) b A t → t ≤ sum f e x a
-        negative-case down (none q) m = absurd (q (X .high) (record { inside = record { low = omega arith; high = le-refl (X .high) }; enough = r2 }))
-        negative-case down (least y l h) (none q) = absurd (q (A .high) (record { inside = record { low = omega arith; high = le-refl (A .high) }; enough = omega (arith, r1, sum-comm f e (A .high) (X .low)) }))
-        negative-case down (least y l h) (least z m k) = elim (le-or-lt s (x - 1)) [
-          | inl o ↦ high-best X A nx na no-sum down z m t k (p3 down z m) x a i j hx ha (omega arith) k1 w (omega arith)
-          | inr o ↦ elim (le-or-lt s (a - 1)) [
-            | inl o' ↦ omega (arith, high-best A X na nx swapped down y l t h (p4 down y l) a x j i ha hx (omega arith) k2 (omega (arith, sum-comm f e (x - 1) a)) (omega (arith, sum-comm f e x a)), sum-comm f e a x)
-            | inr o' ↦ absurd (both o o')
+          negative-case : b < s → t ≤ sum f e x a
+          negative-case down = elim (le-or-lt s (x - 1)) [
+            | inl o ↦ high-best X A nx na no-sum down z m t k (p3 down z m) x a i j hx ha (omega arith) k1 w (omega arith)
+            | inr o ↦ elim (le-or-lt s (a - 1)) [
+              | inl o' ↦ omega (arith, high-best A X na nx swapped down y l t h (p4 down y l) a x j i ha hx (omega arith) k2 (omega (arith, sum-comm f e (x - 1) a)) (omega (arith, sum-comm f e x a)), sum-comm f e a x)
+              | inr o' ↦ absurd (both o o')
+            ]
           ]
-        ]
-          where
-            both : x - 1 < s → a - 1 < s → ⊥
-            both o o' =
-                let r = infinity-lt-sign f e in
-                let R = reflection f e B in
-                let c1 = subst (λ (q : ℕ). Skips f e R (mirrored f e a) (mirrored f e q)) xp (mirror-skips f e some B a (x - 1) (omega arith) (omega arith) (omega arith) (omega arith) k1) in
-                let c2 = subst (λ (q : ℕ). Skips f e R (mirrored f e x) (mirrored f e q)) ap' (mirror-skips f e some B x (a - 1) (omega arith) (omega arith) (omega arith) (omega arith) k2) in
-                elim (le-or-lt a x) [
-                  | inl q ↦ skips-none f e some R (mirror-bounded f e B nb) (le-refl (R .low)) (mirrored f e a) (mirrored f e x) (omega arith) (omega arith) c1
-                  | inr q ↦ skips-none f e some R (mirror-bounded f e B nb) (le-refl (R .low)) (mirrored f e x) (mirrored f e a) (omega arith) (omega arith) c2
-                ]
+            where
+              both : x - 1 < s → a - 1 < s → ⊥
+              both o o' =
+                  let r = infinity-lt-sign f e in
+                  let R = reflection f e B in
+                  let c1 = subst (λ (q : ℕ). Skips f e R (mirrored f e a) (mirrored f e q)) xp (mirror-skips f e some B nb a (x - 1) (omega arith) (omega arith) k1) in
+                  let c2 = subst (λ (q : ℕ). Skips f e R (mirrored f e x) (mirrored f e q)) ap' (mirror-skips f e some B nb x (a - 1) (omega arith) (omega arith) k2) in
+                  elim (le-or-lt a x) [
+                    | inl q ↦ skips-none f e some R (mirror-bounded f e B nb) (le-refl (R .low)) (mirrored f e a) (mirrored f e x) (omega arith) (omega arith) c1
+                    | inr q ↦ skips-none f e some R (mirror-bounded f e B nb) (le-refl (R .low)) (mirrored f e x) (mirrored f e a) (omega arith) (omega arith) c2
+                  ]
 
-        stuck : t ≤ sum f e x a
-        stuck = elim (trichotomy b s) [
-          | inl o ↦ negative-case o p1 p2
+        stuck : AtMost f e (A .low) b X t → AtMost f e (X .low) b A t → t ≤ sum f e x a
+        stuck (none q) m = absurd (q (X .high) (record { inside = record { low = omega arith; high = le-refl (X .high) }; enough = r2 }))
+        stuck (least y l h) (none q) = absurd (q (A .high) (record { inside = record { low = omega arith; high = le-refl (A .high) }; enough = omega (arith, r1, sum-comm f e (A .high) (X .low)) }))
+        stuck (least y l h) (least z m k) = elim (trichotomy b s) [
+          | inl o ↦ negative-case y z l h m k o
           | inr r ↦ elim r [
             | inl o ↦ absurd (zero-in-none f e some B (omega arith) (omega arith) a (x - 1) (omega (arith, na .high .high, infinity-lt-sign f e)) k1)
-            | inr o ↦ positive-case o p1 p2
+            | inr o ↦ positive-case y z l h m k o
           ]
         ]
 
@@ -280,7 +280,7 @@ module _ (f e : ℕ) (some : 1 ≤ f) where
             | inl u ↦ le-trans (down-to k (x - 1) a (omega arith) (record { low = omega arith; high = omega arith }) j u) (sum-mono f e some (x - 1) x a a (omega arith) (le-refl a))
             | inr u ↦ elim (le-or-lt b (sum f e x (a - 1))) [
               | inl w ↦ le-trans (down-to k x (a - 1) (omega arith) i (record { low = omega arith; high = omega arith }) w) (sum-mono f e some x x (a - 1) a (le-refl x) (omega arith))
-              | inr w ↦ stuck x a i j q r (past X A nx na no-sum x a i j g) u w
+              | inr w ↦ stuck x a i j q r (past X A nx na no-sum x a i j g) u w p1 p2
             ]
           ]
         ]
