@@ -3,7 +3,7 @@ use mathlib.Core.Path.{_≡_, refl, sym, ap, ap₂, _∙_, subst}
 use mathlib.Core.Logic.{inl, inr}
 use mathlib.Core.Bool.{Bool, true, false, not, cond, Bool·beq}
 use Prim.Native.Nat.{ℕ, _+_, _-_, _*_, _/_, _^_, _≤_, _<_}
-use native.Mathlib.Nat.{div-mul-le-self, le-trans, le-of-mul-le-mul-right, mul-le-mul-left, mul-le-mul-right, mul-sub, mul-comm}
+use native.Mathlib.Nat.{div-mul-le-self, le-trans, le-of-mul-le-mul-right, mul-le-mul-left, mul-le-mul-right}
 use native.Mathlib.Omega.{arith}
 use lib.Pow.{pow-pos, pow-add}
 use lib.Dec.{ltb}
@@ -12,6 +12,7 @@ use Rattle.ladder.specs.Magnitude.{magnitude, shift, significand}
 use Rattle.ladder.specs.Ordinal.{above, below}
 use Rattle.ladder.proofs.Cases.{le-or-lt}
 use Rattle.ladder.proofs.Magnitude.{parts, magnitude-parts, shift-le, magnitude-le}
+use Rattle.ladder.proofs.Multiples.{sub-mul}
 use Rattle.ladder.proofs.Ordinals.{infinity-lt-sign, above-none, below-none}
 use Rattle.arith.specs.declared.exact.Parts.{Parts}
 use Rattle.arith.specs.declared.exact.Exact.{Exact}
@@ -29,7 +30,7 @@ unfolding sizeOf
 size-is t A B a b = go (t .opposite)
   where
     go : (o : Bool) → cond o (t .larger * 2 ^ t .gap - t .smaller) (t .larger * 2 ^ t .gap + t .smaller) * 2 ^ t .shift ≡ cond o (A - B) (A + B)
-    go true = mul-comm (t .larger * 2 ^ t .gap - t .smaller) (2 ^ t .shift) ∙ mul-sub (2 ^ t .shift) (t .larger * 2 ^ t .gap) (t .smaller) ∙ omega arith
+    go true = sub-mul (t .larger * 2 ^ t .gap) (t .smaller) (2 ^ t .shift) ∙ omega arith
     go false = omega arith
 
 module _ (f m n : ℕ) (negative opposite : Bool) (h : n ≤ m) where

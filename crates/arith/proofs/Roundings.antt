@@ -15,8 +15,8 @@ use borrow.Author.Tests.{eq-eqb, ne-eqb}
 use Rattle.ladder.specs.Magnitude.{magnitude}
 use Rattle.ladder.specs.Rounding.{excess, round}
 use Rattle.ladder.proofs.Cases.{le-or-lt, Compares, compare-is}
-use Rattle.ladder.proofs.Digits.{lt-size}
-use Rattle.ladder.proofs.Magnitude.{magnitude-is}
+use Rattle.ladder.proofs.Digits.{shifted-lt, shifted-ge}
+use Rattle.ladder.proofs.Magnitude.{magnitude-is, magnitude-small}
 use Rattle.ladder.proofs.Rounding.{round-magnitude, even-pow}
 use Rattle.ladder.proofs.Multiples.{magnitude-dvd}
 use Rattle.ladder.proofs.Sticky.{round-sticky, round-scale}
@@ -118,18 +118,6 @@ module _ (f n s k : ℕ) (long : size n ≡ f + 1 + k) where
       (omega arith, omega (arith, mul-le-mul-left s (pow-pos f)), omega (arith, mul-le-mul K F, kept-few))
 
 -- ---- what `round_short` makes
-shifted-lt : (n s j : ℕ) → size n + s ≤ j → n * 2 ^ s < 2 ^ j
-shifted-lt n s j h = omega (arith, mul-lt-mul-of-pos-right (size-lt n) (pow-pos s), pow-add 2 (size n) s, pow-mono h)
-
-shifted-ge : (n s j : ℕ) → 0 < n → size n + s ≡ suc j → 2 ^ j ≤ n * 2 ^ s
-shifted-ge n s j p h =
-    let z : 0 < size n = lt-size n 0 p in
-    let e : size n - 1 + s ≡ j = omega arith in
-    omega (arith, mul-le-mul-right (2 ^ s) (size-reaches n (size n - 1) (omega arith)), pow-add 2 (size n - 1) s, ap (λ (x : ℕ). 2 ^ x) e)
-
-magnitude-small : (f q : ℕ) → q ≤ 2 * 2 ^ f → magnitude f q ≡ q
-magnitude-small f q h = ap (magnitude f) (omega arith) ∙ magnitude-is f 0 q (inl refl) h ∙ omega arith
-
 module _ (f n s : ℕ) (some : 1 ≤ f) where
   pub short-zero : n ≡ 0 → record { place = 0; exact = true } ≡ roundingOf f (n * 2 ^ s)
   short-zero z = rounding-exact f 0 (n * 2 ^ s) some (magnitude-small f 0 (omega arith) ∙ omega (arith, ap (λ (x : ℕ). x * 2 ^ s) z))
@@ -142,7 +130,7 @@ module _ (f n s : ℕ) (some : 1 ≤ f) where
   pub short-high : (r u p : ℕ) → 0 < n → size n + r ≡ f + 1 → r < s → u ≡ (s - r) * 2 ^ f → p ≡ n * 2 ^ r → record { place = u + p; exact = true } ≡ roundingOf f (n * 2 ^ s)
   short-high r u p pos h l U E =
       let g : size n + r ≡ suc f = omega arith in
-      let a : 2 ^ f ≤ p = omega (arith, shifted-ge n r f pos g) in
+      let a : 2 ^ f ≤ p = omega (arith, shifted-ge n r f pos (omega arith)) in
       let b : p ≤ 2 * 2 ^ f = omega (arith, shifted-lt n r (suc f) (omega arith), pow-succ' 2 f) in
       let w : r + (s - r) ≡ s = omega arith in
       rounding-exact f (u + p) (n * 2 ^ s) some

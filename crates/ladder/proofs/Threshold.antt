@@ -1,6 +1,6 @@
 -- The least operand without a search. By the signed central law x reaches b with a exactly when twice the value of x is at least twice the midpoint of b and its lower neighbour, less twice a, and more
 -- than that where b is odd. So the operands that reach b are those from one float on: half that difference, rounded up. Assumes nothing.
-use mathlib.Core.Path.{_≡_, refl, ap, _∙_}
+use mathlib.Core.Path.{_≡_, ap, _∙_}
 use mathlib.Core.Logic.{_↔_, inl, inr}
 use Prim.Native.Nat.{ℕ, _+_, _-_, _*_, _/_, _%_, _^_, _≤_, _<_}
 use native.Mathlib.Omega.{arith}
@@ -11,7 +11,7 @@ use Rattle.ladder.specs.Ordinal.{sign, infinity, above, below, Finite}
 use Rattle.ladder.specs.Sum.{sum}
 use Rattle.ladder.specs.Search.{crossingUp, crossingDown, Threshold}
 use Rattle.ladder.proofs.Cases.{le-or-lt, trichotomy}
-use Rattle.ladder.proofs.Magnitude.{magnitude-low, magnitude-is, magnitude-shift, magnitude-le, magnitude-lt, magnitude-zero}
+use Rattle.ladder.proofs.Magnitude.{magnitude-small, magnitude-shift, magnitude-le, magnitude-lt, magnitude-zero}
 use Rattle.ladder.proofs.Rounding.{even-pow}
 use Rattle.ladder.proofs.Ordinals.{infinity-lt-sign, sign-is, above-none, below-none}
 use Rattle.ladder.proofs.Truncation.{truncated-galois}
@@ -53,9 +53,7 @@ module _ (f n h : ℕ) (is : h ≡ truncated f (n / 2)) where
 magnitude-twice : (f m : ℕ) → 2 * magnitude f m ≤ magnitude f (m + 2 ^ f)
 magnitude-twice f m = elim (le-or-lt (2 ^ f) m) [
   | inl l ↦ let e : magnitude f (m + 2 ^ f) ≡ magnitude f m * 2 ^ 1 = ap (magnitude f) (omega arith) ∙ magnitude-shift f 1 m l in omega arith
-  | inr l ↦
-      let e : magnitude f (m + 2 ^ f) ≡ (m + 2 ^ f) * 2 ^ 0 = ap (magnitude f) (omega arith) ∙ magnitude-is f 0 (m + 2 ^ f) (inl refl) (omega arith) in
-      omega (arith, magnitude-low f m l)
+  | inr l ↦ omega (arith, magnitude-small f m (omega arith), magnitude-small f (m + 2 ^ f) (omega arith))
 ]
 
 -- ---- the operands that reach b with a
