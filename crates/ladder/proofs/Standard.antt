@@ -21,7 +21,7 @@ use Rattle.ladder.specs.Ordinal.{sign, infinity, isFinite, ordinal, patt
 use Rattle.ladder.specs.Sum.{rounded, sum}
 use Rattle.ladder.proofs.Cases.{le-or-lt}
 use Rattle.ladder.proofs.Multiples.{sub-mul}
-use Rattle.ladder.proofs.Ordinals.{infinity-lt-sign, finite-low, finite-high, ordinal-low, ordinal-high, pattern-finite, ordinal-pattern, above-none, below-none}
+use Rattle.ladder.proofs.Ordinals.{infinity-lt-sign, finite-low, finite-high, ordinal-low, ordinal-high, pattern-finite, ordinal-pattern, signed-value}
 use Rattle.ladder.proofs.Sum.{rounded-up, rounded-down, sum-range}
 use Rattle.ladder.proofs.Ieee.{frac, round-bits}
 
@@ -190,26 +190,12 @@ module _ (F : Format) where
   read-pattern p h = elim (le-or-lt s p) [
     | inl l ↦
         let q = finite-high f e p h l in
-        let o = ordinal-high f e p l in
-        record {
-          b = true;
-          m = p - s;
-          is = omega (arith, sign-is F);
-          low = omega (arith, infinity-is F);
-          above-is = above-none f e (ordinal f e p) (omega arith);
-          below-is = ap (magnitude f) (omega (arith, infinity-lt-sign f e));
-        }
+        let v = signed-value f e true (ordinal f e p) (p - s) (omega (arith, ordinal-high f e p l, infinity-lt-sign f e)) in
+        record { b = true; m = p - s; is = omega (arith, sign-is F); low = omega (arith, infinity-is F); above-is = v .0; below-is = v .1 }
     | inr l ↦
         let q = finite-low f e p h l in
-        let o = ordinal-low f e p l in
-        record {
-          b = false;
-          m = p;
-          is = omega arith;
-          low = omega (arith, infinity-is F);
-          above-is = ap (magnitude f) (omega arith);
-          below-is = below-none f e (ordinal f e p) (omega arith);
-        }
+        let v = signed-value f e false (ordinal f e p) p (omega (arith, ordinal-low f e p l)) in
+        record { b = false; m = p; is = omega arith; low = omega (arith, infinity-is F); above-is = v .0; below-is = v .1 }
   ]
 
   pub add-sum : (x a : ℕ) → isFinite f e x ≡ true → isFinite f e a ≡ true
