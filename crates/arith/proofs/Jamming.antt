@@ -1,4 +1,4 @@
--- A gap of more than three digits: of the smaller significand a word keeps the digits down to the third below the larger one's last, and one sticky bit for all below. Assumes nothing.
+-- A gap of more than three digits: of the smaller significand a word keeps the digits down to the third below the larger one's last, and one sticky bit for all below. Rests on `ladder`'s Multiples.
 use mathlib.Core.Path.{_≡_, refl, sym, ap, ap₂, _∙_, subst}
 use mathlib.Core.Logic.{_⊎_, inl, inr}
 use mathlib.Core.Bool.{Bool, true, false, cond}

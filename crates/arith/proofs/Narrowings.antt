@@ -1,4 +1,4 @@
--- The narrowing of ranges, carried over to the code's answers: its ends are finite where those given are, and each is written in its pattern. Assumes nothing.
+-- The narrowing of ranges, carried over to the code's answers: its ends are finite where those given are, and each is written in its pattern. Rests on `ladder`'s Hull and Assembly.
 use mathlib.Core.Path.{_≡_, sym, ap}
 use Rattle.ladder.specs.Narrowing as N
 use Rattle.ladder.proofs.Hull.{within-bounded, narrowing-hull, hull-bounded}

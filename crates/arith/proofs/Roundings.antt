@@ -1,4 +1,4 @@
--- The rounding of a number of units: an exact one, one by its kept digits and the rest, and one of whose low digits only a sticky bit is kept. Assumes nothing.
+-- The rounding of a number of units: an exact one, one by its kept digits and the rest, and one of whose low digits only a sticky bit is kept. Rests on `ladder`'s Digits, Magnitude, Rounding, Multiples and Sticky.
 use mathlib.Core.Path.{_≡_, refl, sym, ap, ap₂, _∙_}
 use mathlib.Core.Logic.{inl, inr}
 use mathlib.Core.Bool.{Bool, true, false}
