@@ -1,4 +1,4 @@
--- The least operand that reaches b and the greatest whose sum is no more than b: what is below the one falls short of b, what is above the other is past it. So the step to the one, or from the other, skips B where it does not end inside B. Assumes nothing.
+-- The least operand that reaches b and the greatest whose sum is no more than b: what is below the one falls short of b, what is above the other is past it. So where the one is itself past B, or the other short of it, the step between it and that neighbour skips B. Assumes nothing.
 use mathlib.Core.Path.{_≡_, ap}
 use mathlib.Core.Logic.{inl, inr}
 use Prim.Native.Nat.{ℕ, _+_, _-_, _<_}

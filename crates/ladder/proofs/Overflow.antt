@@ -15,8 +15,8 @@ use Rattle.ladder.proofs.Cases.{le-or-lt}
 use Rattle.ladder.proofs.Magnitude.{magnitude-high}
 use Rattle.ladder.proofs.Rounding.{even-pow}
 use Rattle.ladder.proofs.Central.{le-round}
-use Rattle.ladder.proofs.Ordinals.{infinity-lt-sign, mirror-finite}
-use Rattle.ladder.proofs.Sum.{rounded-up, rounded-mirror}
+use Rattle.ladder.proofs.Ordinals.{infinity-lt-sign}
+use Rattle.ladder.proofs.Sum.{rounded-up, mirror-rounded}
 
 halves : (d t s : ℕ) → s ≡ 2 * t → d * s + suc d * s ≡ 2 * ((2 * d + 1) * t)
 halves d t s e = omega (arith, ap (λ (x : ℕ). d * x) e)
@@ -69,13 +69,10 @@ module _ (f e : ℕ) (some : 1 ≤ f) (two : 2 ≤ e) where
         λ b y. let l = o .1 b in omega (arith, y .high),
       )
 
-  turned : (p n : ℕ) → Finite f e (rounded f e p n) → Finite f e (rounded f e n p)
-  turned p n h = rw (rounded-mirror f e some p n) (mirror-finite f e (rounded f e p n) h)
-
   rounded-overflow : (p n : ℕ) → (Finite f e (rounded f e p n) → ⊥) ↔ (bound f e ≤ distance p n)
   rounded-overflow p n = elim (le-or-lt n p) [
     | inl h ↦ let u = up p n h in (λ no. omega (arith, u .0 no), λ b. u .1 (omega arith))
-    | inr h ↦ let u = up n p (omega arith) in (λ no. omega (arith, u .0 (λ y. no (turned n p y))), λ b y. u .1 (omega arith) (turned p n y))
+    | inr h ↦ let u = up n p (omega arith) in (λ no. omega (arith, u .0 (λ y. no (mirror-rounded f e some n p y))), λ b y. u .1 (omega arith) (mirror-rounded f e some p n y))
   ]
 
   pub no-finite-sum : (x a : ℕ) → (Finite f e (sum f e x a) → ⊥) ↔ (bound f e ≤ distance (gains f e x a) (losses f e x a))

@@ -6,12 +6,12 @@ use native.Mathlib.Nat.{add-comm}
 use native.Mathlib.Omega.{arith}
 use Rattle.ladder.specs.Magnitude.{magnitude}
 use Rattle.ladder.specs.Rounding.{round}
-use Rattle.ladder.specs.Ordinal.{sign, infinity, above, below, mirrored}
+use Rattle.ladder.specs.Ordinal.{sign, infinity, above, below, mirrored, Finite}
 use Rattle.ladder.specs.Sum.{rounded, gains, losses, sum}
 use Rattle.ladder.proofs.Cases.{le-or-lt}
 use Rattle.ladder.proofs.Magnitude.{magnitude-le, magnitude-zero}
 use Rattle.ladder.proofs.Rounding.{round-mono, round-magnitude}
-use Rattle.ladder.proofs.Ordinals.{infinity-lt-sign, above-none, below-none}
+use Rattle.ladder.proofs.Ordinals.{infinity-lt-sign, above-none, below-none, mirror-finite}
 
 round-zero : (f n : ℕ) → 1 ≤ f → n ≡ 0 → round f n ≡ 0
 round-zero f n some z = ap (round f) (z ∙ sym (magnitude-zero f 0 refl)) ∙ round-magnitude f some 0
@@ -51,6 +51,9 @@ module _ (f e : ℕ) (some : 1 ≤ f) where
     | inl h ↦ omega (arith, rounded-down p n h, rounded-up n p h)
     | inr h ↦ omega (arith, rounded-up p n (omega arith), rounded-down n p (omega arith))
   ]
+
+  pub mirror-rounded : (p n : ℕ) → Finite f e (rounded f e p n) → Finite f e (rounded f e n p)
+  mirror-rounded p n h = rw (rounded-mirror p n) (mirror-finite f e (rounded f e p n) h)
 
   pub above-mirror : (r : ℕ) → above f e (mirrored f e r) ≡ below f e r
   above-mirror r = ap (magnitude f) (omega arith)
