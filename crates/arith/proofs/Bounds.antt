@@ -1,4 +1,4 @@
--- The clamped operands make the same triples, and so have the same corner. Assumes nothing.
+-- The clamped operands make the same triples, and so have the same corner. Rests on `ladder`'s Clamp and Solutions.
 use mathlib.Core.Path.{_≡_, subst}
 use Prim.Native.Nat.{ℕ, _-_, _≤_, _<_}
 use native.Mathlib.Omega.{arith}

@@ -7,7 +7,7 @@ use Rattle.ladder.specs.Solution as L
 use Rattle.ladder.specs.Narrowing.{Narrowing, none, ends}
 use Rattle.ladder.specs.Solution.{Bounded}
 use Rattle.ladder.proofs.Ordinals.{pattern-finite}
-use Rattle.ladder.proofs.Hull.{narrowing-hull, hull-x, hull-a, hull-b, within-bounded}
+use Rattle.ladder.proofs.Hull.{narrowing-hull, hull-bounded}
 use Rattle.arith.specs.declared.format.Format.{Format}
 use Rattle.arith.specs.declared.interval.Interval.{Interval}
 use Rattle.arith.specs.declared.narrow.Narrowed.{Narrowed}
@@ -69,7 +69,7 @@ module _ (width : ℕ) (x a b : Interval) where
   narrow-valid k fx fa fb ox oa ob = sym (passed Refused 1 _ _ k (passed Refused 2 _ _ fx (passed Refused 2 _ _ fa (passed Refused 2 _ _ fb (passed Refused 3 _ _ ox (passed Refused 3 _ _ oa (passed Refused 3 _ _ ob refl)))))))
 
 -- written ends are finite
-written-finite : (F : Format) (I : L.Interval) → Bounded (F .fraction) (F .exponent) I → endsFinite F (written F I) ≡ true
+pub written-finite : (F : Format) (I : L.Interval) → Bounded (F .fraction) (F .exponent) I → endsFinite F (written F I) ≡ true
 unfolding endsFinite
 written-finite F I n = rw (pattern-finite (F .fraction) (F .exponent) (I .low) (n .low), pattern-finite (F .fraction) (F .exponent) (I .high) (n .high))
 
@@ -82,7 +82,5 @@ answered-finite width x a b p q r w =
     let A = span (rangeOf F a) in
     let B = span (rangeOf F b) in
     let h = narrowing-hull f e X A B (w .X) (w .A) (w .B) (w .is) in
-    let nx = within-bounded (range-ends F x (rangeOf F x) refl (w .valid-x .finite)) (hull-x f e X A B (w .X) (w .A) (w .B) h) in
-    let na = within-bounded (range-ends F a (rangeOf F a) refl (w .valid-a .finite)) (hull-a f e X A B (w .X) (w .A) (w .B) h) in
-    let nb = within-bounded (range-ends F b (rangeOf F b) refl (w .valid-b .finite)) (hull-b f e X A B (w .X) (w .A) (w .B) h) in
-    (rw (w .x-is) (written-finite F (w .X) nx), rw (w .a-is) (written-finite F (w .A) na), rw (w .b-is) (written-finite F (w .B) nb))
+    let n = hull-bounded f e X A B (w .X) (w .A) (w .B) h (range-ends F x (rangeOf F x) refl (w .valid-x .finite)) (range-ends F a (rangeOf F a) refl (w .valid-a .finite)) (range-ends F b (rangeOf F b) refl (w .valid-b .finite)) in
+    (rw (w .x-is) (written-finite F (w .X) (n .0)), rw (w .a-is) (written-finite F (w .A) (n .1)), rw (w .b-is) (written-finite F (w .B) (n .2)))

@@ -1,4 +1,4 @@
--- The clamp on machine words: the exponent field of the sum's ends, the digits in which they differ, and the raised end. Assumes nothing.
+-- The clamp on machine words: the exponent field of the sum's ends, the digits in which they differ, and the raised end. Rests on `ladder`'s Granularity.
 use mathlib.Core.Path.{_≡_, refl, sym, ap, _∙_, subst}
 use mathlib.Core.Logic.{inl, inr}
 use Prim.Native.Nat.{ℕ, zero, suc, _+_, _-_, _*_, _/_, _^_, _≤_, _<_, _∣_, max}

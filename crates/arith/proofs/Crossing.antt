@@ -1,7 +1,7 @@
--- Twice the midpoint of b and its lower neighbour, less twice a, as an exact difference in half units. Assumes nothing.
+-- Twice the midpoint of b and its lower neighbour, less twice a, as an exact difference in half units. Rests on `ladder`'s Magnitude and Ordinals.
 use mathlib.Core.Path.{_≡_, sym, ap, ap₂, _∙_, subst}
 use mathlib.Core.Logic.{_⊎_, inl, inr}
-use mathlib.Core.Bool.{Bool, cond}
+use mathlib.Core.Bool.{Bool, true, false, cond}
 use Prim.Native.Nat.{ℕ, suc, _+_, _-_, _*_, _^_, _≤_, _<_}
 use native.Mathlib.Nat.{lt-of-mul-lt-mul-right}
 use native.Mathlib.Omega.{arith}
@@ -12,7 +12,7 @@ use Rattle.ladder.specs.Magnitude.{magnitude, shift}
 use Rattle.ladder.specs.Ordinal.{above, below}
 use Rattle.ladder.proofs.Cases.{le-or-lt}
 use Rattle.ladder.proofs.Magnitude.{parts, magnitude-parts, magnitude-suc, magnitude-le, magnitude-lt, shift-le}
-use Rattle.ladder.proofs.Ordinals.{infinity-lt-sign, above-none, below-none}
+use Rattle.ladder.proofs.Ordinals.{infinity-lt-sign, signed-value}
 use Rattle.arith.specs.declared.exact.Exact.{Exact}
 use Rattle.arith.specs.declared.format.Format.{Format}
 use Rattle.arith.specs.Formats.{Sound, Finite}
@@ -97,29 +97,19 @@ module _ (F : Format) (a b m n : ℕ) (ok : Sound F) (A : Finite F a) (B : Finit
     middle-signs : (above f (F .exponent) (b - 1) + above f (F .exponent) b ≡ cond (leb b z) 0 (middle f m)) × (below f (F .exponent) (b - 1) + below f (F .exponent) b ≡ cond (leb b z) (middle f m) 0)
     middle-signs = elim M [
       | inl h ↦
-          let u = above-none f (F .exponent) b (omega (arith, ok .sign)) in
-          let v = above-none f (F .exponent) (b - 1) (omega (arith, ok .sign)) in
-          let x : below f (F .exponent) b ≡ magnitude f m = ap (magnitude f) (omega (arith, ok .sign)) in
-          let y : below f (F .exponent) (b - 1) ≡ magnitude f (suc m) = ap (magnitude f) (omega (arith, ok .sign, B .low, infinity-lt-sign f (F .exponent))) in
+          let u = signed-value f (F .exponent) true b m (omega (arith, ok .sign)) in
+          let v = signed-value f (F .exponent) true (b - 1) (suc m) (omega (arith, ok .sign, B .low, infinity-lt-sign f (F .exponent))) in
           simp (le-leb _ _ (h .0)) (omega arith, omega arith)
       | inr h ↦
-          let u = below-none f (F .exponent) b (omega (arith, ok .sign)) in
-          let v = below-none f (F .exponent) (b - 1) (omega (arith, ok .sign)) in
-          let x : above f (F .exponent) (b - 1) ≡ magnitude f m = ap (magnitude f) (omega (arith, ok .sign)) in
-          let y : above f (F .exponent) b ≡ magnitude f (suc m) = ap (magnitude f) (omega (arith, ok .sign)) in
+          let u = signed-value f (F .exponent) false (b - 1) m (omega (arith, ok .sign)) in
+          let v = signed-value f (F .exponent) false b (suc m) (omega (arith, ok .sign)) in
           simp (lt-leb _ _ (h .0)) (omega arith, omega arith)
     ]
 
     operand-signs : (2 * below f (F .exponent) a ≡ cond (ltb z a) 0 (2 * magnitude f n)) × (2 * above f (F .exponent) a ≡ cond (ltb z a) (2 * magnitude f n) 0)
     operand-signs = elim (le-or-lt a z) [
-      | inl h ↦
-          let u = above-none f (F .exponent) a (omega (arith, ok .sign)) in
-          let v : below f (F .exponent) a ≡ magnitude f n = ap (magnitude f) (omega (arith, ok .sign)) in
-          simp (le-ltb _ _ h) (omega arith, omega arith)
-      | inr h ↦
-          let u = below-none f (F .exponent) a (omega (arith, ok .sign)) in
-          let v : above f (F .exponent) a ≡ magnitude f n = ap (magnitude f) (omega (arith, ok .sign)) in
-          simp (lt-ltb _ _ h) (omega arith, omega arith)
+      | inl h ↦ let v = signed-value f (F .exponent) true a n (omega (arith, ok .sign)) in simp (le-ltb _ _ h) (omega arith, omega arith)
+      | inr h ↦ let v = signed-value f (F .exponent) false a n (omega (arith, ok .sign)) in simp (lt-ltb _ _ h) (omega arith, omega arith)
     ]
 
     high : (m ≤ 2 ^ 63) × (n ≤ 2 ^ 63)

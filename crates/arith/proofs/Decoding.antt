@@ -1,9 +1,9 @@
--- Step 1 of the forward sum: magnitudes taken apart and the exact sum of two, with nothing lost. Assumes nothing.
+-- Step 1 of the forward sum: magnitudes taken apart and the exact sum of two, with nothing lost. Rests on `ladder`'s Magnitude and Ordinals.
 use mathlib.Core.Path.{_≡_, refl, sym, ap, ap₂, _∙_, subst}
 use mathlib.Core.Logic.{inl, inr}
 use mathlib.Core.Bool.{Bool, true, false, not, cond, Bool·beq}
 use Prim.Native.Nat.{ℕ, _+_, _-_, _*_, _/_, _^_, _≤_, _<_}
-use native.Mathlib.Nat.{div-mul-le-self, le-trans, le-of-mul-le-mul-right, mul-le-mul-left, mul-le-mul-right, mul-sub, mul-comm}
+use native.Mathlib.Nat.{div-mul-le-self, le-trans, le-of-mul-le-mul-right, mul-le-mul-left, mul-le-mul-right}
 use native.Mathlib.Omega.{arith}
 use lib.Pow.{pow-pos, pow-add}
 use lib.Dec.{ltb}
@@ -12,7 +12,8 @@ use Rattle.ladder.specs.Magnitude.{magnitude, shift, significand}
 use Rattle.ladder.specs.Ordinal.{above, below}
 use Rattle.ladder.proofs.Cases.{le-or-lt}
 use Rattle.ladder.proofs.Magnitude.{parts, magnitude-parts, shift-le, magnitude-le}
-use Rattle.ladder.proofs.Ordinals.{infinity-lt-sign, above-none, below-none}
+use Rattle.ladder.proofs.Multiples.{sub-mul}
+use Rattle.ladder.proofs.Ordinals.{infinity-lt-sign, signed-value}
 use Rattle.arith.specs.declared.exact.Parts.{Parts}
 use Rattle.arith.specs.declared.exact.Exact.{Exact}
 use Rattle.arith.specs.declared.format.Format.{Format}
@@ -29,7 +30,7 @@ unfolding sizeOf
 size-is t A B a b = go (t .opposite)
   where
     go : (o : Bool) → cond o (t .larger * 2 ^ t .gap - t .smaller) (t .larger * 2 ^ t .gap + t .smaller) * 2 ^ t .shift ≡ cond o (A - B) (A + B)
-    go true = mul-comm (t .larger * 2 ^ t .gap - t .smaller) (2 ^ t .shift) ∙ mul-sub (2 ^ t .shift) (t .larger * 2 ^ t .gap) (t .smaller) ∙ omega arith
+    go true = sub-mul (t .larger * 2 ^ t .gap) (t .smaller) (2 ^ t .shift) ∙ omega arith
     go false = omega arith
 
 module _ (f m n : ℕ) (negative opposite : Bool) (h : n ≤ m) where
@@ -64,10 +65,11 @@ module _ (f m n : ℕ) (negative opposite : Bool) (h : n ≤ m) where
       le-mul : (x k : ℕ) → 0 < k → x ≤ x * k
       le-mul x k p = omega (arith, mul-le-mul-left x p)
 
--- A is at least B, with the signs s and t
+-- the signs differ
 abbrev pub apart : Bool → Bool → Bool
 apart s t = not (Bool·beq s t)
 
+-- A is at least B, with the signs s and t
 pub signed-up : (s t : Bool) (A B : ℕ) → B ≤ A → cond s 0 (cond (apart s t) (A - B) (A + B)) ≡ (cond s 0 A + cond t 0 B) - (cond s A 0 + cond t B 0)
 signed-up true true A B h = omega arith
 signed-up true false A B h = omega arith
@@ -106,8 +108,8 @@ fromZero F r = (r - F .sign) + (F .sign - r)
 
 signs : (F : Format) → Sound F → (r : ℕ) → (above (F .fraction) (F .exponent) r ≡ cond (ltb r (F .sign)) 0 (magnitude (F .fraction) (fromZero F r))) × (below (F .fraction) (F .exponent) r ≡ cond (ltb r (F .sign)) (magnitude (F .fraction) (fromZero F r)) 0)
 signs F ok r = elim (le-or-lt (F .sign) r) [
-  | inl l ↦ simp (le-ltb _ _ l) (ap (magnitude (F .fraction)) (omega (arith, ok .sign)), below-none (F .fraction) (F .exponent) r (omega (arith, ok .sign)))
-  | inr l ↦ simp (lt-ltb _ _ l) (above-none (F .fraction) (F .exponent) r (omega (arith, ok .sign)), ap (magnitude (F .fraction)) (omega (arith, ok .sign)))
+  | inl l ↦ simp (le-ltb _ _ l) (signed-value (F .fraction) (F .exponent) false r (fromZero F r) (omega (arith, ok .sign)))
+  | inr l ↦ simp (lt-ltb _ _ l) (signed-value (F .fraction) (F .exponent) true r (fromZero F r) (omega (arith, ok .sign)))
 ]
 
 -- x is the larger one, so the sum has its sign

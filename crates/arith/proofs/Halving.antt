@@ -9,13 +9,13 @@ use lib.Dec.{eqb}
 use lib.Arith.{digits-div}
 use lib.Pow.{pow-pos, pow-add, pow-mono}
 use lib.Ieee.{size}
-use lib.Ieee.Digits.{size-lt, size-le}
+use lib.Ieee.Digits.{size-le}
 use borrow.Author.Tests.{eq-eqb, ne-eqb}
 use Rattle.ladder.specs.Magnitude.{magnitude}
 use Rattle.ladder.specs.Rounding.{excess, truncated}
 use Rattle.ladder.proofs.Cases.{le-or-lt}
 use Rattle.ladder.proofs.Magnitude.{magnitude-zero}
-use Rattle.ladder.proofs.Digits.{size-scale, size-half}
+use Rattle.ladder.proofs.Digits.{shifted-lt, size-scale, size-half}
 use Rattle.ladder.proofs.Truncation.{truncated-value, truncated-scale, truncated-magnitude}
 use Rattle.arith.specs.Exacts.{Alike, same, sticky, Fraction}
 use Rattle.arith.specs.Thresholds.{halvedOf}
@@ -88,8 +88,7 @@ module _ (f n s : ℕ) (pos : 0 < n) where
     -- what is kept has at most f + 1 digits
     few : w < 2 ^ (f + 1)
     few =
-        let a : T < 2 ^ (size n + s) = lt-of-lt-of-le (mul-lt-mul-of-pos-right (size-lt n) (pow-pos s)) (omega (arith, pow-add 2 (size n) s)) in
-        let b : 2 ^ (size n + s) ≤ 2 ^ ((f + 1) + (d + 1)) = pow-mono (omega arith) in
+        let a : T < 2 ^ ((f + 1) + (d + 1)) = shifted-lt n s ((f + 1) + (d + 1)) (omega arith) in
         lt-of-mul-lt-mul-right (2 ^ (d + 1)) (omega (arith, pow-add 2 (f + 1) (d + 1)))
 
   right-pow : (d k : ℕ) → k + s ≡ d + 1 → 2 ^ (d + 1) ≡ 2 ^ k * 2 ^ s

@@ -2,12 +2,13 @@
 use mathlib.Core.Path.{_≡_, sym, subst}
 use mathlib.Core.Bool.{true}
 use native.Mathlib.Omega.{arith}
-use Rattle.ladder.proofs.Ordinals.{infinity-lt-sign, ordinal-finite}
+use Rattle.ladder.proofs.Ordinals.{ordinal-finite}
+use Rattle.ladder.proofs.Solutions.{mirror-bounded}
 use Rattle.arith.specs.declared.format.Format.{Format}
 use Rattle.arith.specs.declared.range.Range.{Range}
 use Rattle.arith.specs.declared.interval.Interval.{Interval}
 use Rattle.arith.specs.Formats.{isFinite}
-use Rattle.arith.specs.Intervals.{Bounded, endsFinite, rangeOf, common, reflected}
+use Rattle.arith.specs.Intervals.{Bounded, endsFinite, rangeOf, span, common, reflected}
 use Rattle.arith.proofs.Formats.{both}
 
 pub ends-both : (F : Format) (I : Interval) → endsFinite F I ≡ true → (isFinite F (I .low) ≡ true) × (isFinite F (I .high) ≡ true)
@@ -32,10 +33,4 @@ common-ends F R S T e r s =
     })
 
 pub reflected-ends : (F : Format) (R S : Range) → S ≡ reflected F R → Bounded F R → Bounded F S
-reflected-ends F R S e r =
-    let i = infinity-lt-sign (F .fraction) (F .exponent) in
-    subst (Bounded F) (sym e)
-    (record {
-      low = record { low = omega (arith, r .high .high); high = omega (arith, r .high .low) };
-      high = record { low = omega (arith, r .low .high); high = omega (arith, r .low .low) };
-    })
+reflected-ends F R S e r = subst (Bounded F) (sym e) (mirror-bounded (F .fraction) (F .exponent) (span R) r)

@@ -1,18 +1,16 @@
--- A gap of more than three digits: of the smaller significand a word keeps the digits down to the third below the larger one's last, and one sticky bit for all below. Assumes nothing.
+-- A gap of more than three digits: of the smaller significand a word keeps the digits down to the third below the larger one's last, and one sticky bit for all below. Rests on `ladder`'s Multiples.
 use mathlib.Core.Path.{_≡_, refl, sym, ap, ap₂, _∙_, subst}
 use mathlib.Core.Logic.{_⊎_, inl, inr}
 use mathlib.Core.Bool.{Bool, true, false, cond}
 use Prim.Native.Nat.{ℕ, suc, _+_, _-_, _*_, _/_, _%_, _^_, min, _≤_, _<_}
-use native.Mathlib.Nat.{mod-lt, div-add-mod', mul-le-mul-left, mul-le-mul-right, mul-lt-mul-of-pos-right, mul-sub, mul-comm, mul-pos, pow-succ'}
+use native.Mathlib.Nat.{mod-lt, div-add-mod', mul-le-mul-left, mul-le-mul-right, mul-lt-mul-of-pos-right, mul-pos, pow-succ'}
 use native.Mathlib.Omega.{arith}
 use lib.Pow.{pow-pos, pow-add, pow-mono}
 use Rattle.ladder.proofs.Cases.{le-or-lt}
+use Rattle.ladder.proofs.Multiples.{sub-mul}
 use Rattle.arith.specs.declared.exact.Exact.{Exact}
 use Rattle.arith.specs.declared.rounding.Scaled.{Scaled}
 use Rattle.arith.specs.Exacts.{joinedOf, sizeOf, Shaped, Alike, same, sticky, Scales, Digits}
-
-sub-mul : (a b c : ℕ) → (a - b) * c ≡ a * c - b * c
-sub-mul a b c = mul-comm (a - b) c ∙ mul-sub c a b ∙ omega arith
 
 -- ---- the numbers: u and v are powers of two, Q is K * 2u and the rest L
 module _ (P K L Q u v : ℕ) (q : Q ≡ K * (2 * u) + L) where

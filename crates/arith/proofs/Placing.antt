@@ -36,7 +36,7 @@ placed-cons i b bs s h =
     next : (n : ℕ) → i + suc n ≡ suc i + n
     next n = omega arith
 
--- one byte of the n: k are done, and j is the index of the next
+-- one byte of the n: k are done, and i + k is the index of the next
 pub placed-byte : (n k i w : ℕ) (s : List ℕ) → k < n → i + k < length s
     → placed (i + k) (littleEndian (n - k) w) s ≡ placed (i + (k + 1)) (littleEndian (n - (k + 1)) (w / 256)) (set s (i + k) (w % 256))
 unfolding littleEndian

@@ -1,8 +1,8 @@
--- The rounding of a number of units: an exact one, one by its kept digits and the rest, and one of whose low digits only a sticky bit is kept. Assumes nothing.
+-- The rounding of a number of units: an exact one, one by its kept digits and the rest, and one of whose low digits only a sticky bit is kept. Rests on `ladder`'s Digits, Magnitude, Rounding, Multiples and Sticky.
 use mathlib.Core.Path.{_≡_, refl, sym, ap, ap₂, _∙_}
 use mathlib.Core.Logic.{inl, inr}
 use mathlib.Core.Bool.{Bool, true, false}
-use Prim.Native.Nat.{ℕ, suc, _+_, _-_, _*_, _/_, _%_, _^_, _≤_, _<_, compare, Ordering, Ordering·lt, Ordering·eq, Ordering·gt}
+use Prim.Native.Nat.{ℕ, suc, _+_, _-_, _*_, _/_, _%_, _^_, _≤_, _<_, Ordering, Ordering·lt, Ordering·eq, Ordering·gt}
 use native.Mathlib.Nat.{mod-lt, div-add-mod', mul-le-mul, mul-le-mul-left, mul-le-mul-right, mul-lt-mul-of-pos-right, mod-eq-zero-of-dvd, pow-succ', mul-pos}
 use native.Mathlib.Omega.{arith}
 use lib.Dec.{eqb}
@@ -14,9 +14,9 @@ use lib.Ieee.Nearest.{closest}
 use borrow.Author.Tests.{eq-eqb, ne-eqb}
 use Rattle.ladder.specs.Magnitude.{magnitude}
 use Rattle.ladder.specs.Rounding.{excess, round}
-use Rattle.ladder.proofs.Cases.{le-or-lt, Compares, compares}
-use Rattle.ladder.proofs.Digits.{lt-size}
-use Rattle.ladder.proofs.Magnitude.{magnitude-is}
+use Rattle.ladder.proofs.Cases.{le-or-lt, Compares, compare-is}
+use Rattle.ladder.proofs.Digits.{shifted-lt, shifted-ge}
+use Rattle.ladder.proofs.Magnitude.{magnitude-is, magnitude-small}
 use Rattle.ladder.proofs.Rounding.{round-magnitude, even-pow}
 use Rattle.ladder.proofs.Multiples.{magnitude-dvd}
 use Rattle.ladder.proofs.Sticky.{round-sticky, round-scale}
@@ -50,30 +50,8 @@ rounding-alike f n m some (same e) = ap (roundingOf f) e
 rounding-alike f n m some (sticky j a b c big B B' C C' N M) = ap (roundingOf f) N ∙ rounding-sticky f j a b c some big B B' C C' ∙ sym (ap (roundingOf f) M)
 
 -- ---- the quotient, by how twice the rest compares
-module _ (n d : ℕ) where
-  closest-down : n % d * 2 < d → closest n d ≡ n / d
-  closest-down h = go (compare (n % d * 2) d) (compares (n % d * 2) d)
-    where
-      go : (o : Ordering) → Compares o (n % d * 2) d → nearest (n / d) o ≡ n / d
-      go Ordering·lt l = refl
-      go Ordering·eq l = absurd (omega arith)
-      go Ordering·gt l = absurd (omega arith)
-
-  closest-tie : n % d * 2 ≡ d → closest n d ≡ n / d + n / d % 2
-  closest-tie h = go (compare (n % d * 2) d) (compares (n % d * 2) d)
-    where
-      go : (o : Ordering) → Compares o (n % d * 2) d → nearest (n / d) o ≡ n / d + n / d % 2
-      go Ordering·lt l = absurd (omega arith)
-      go Ordering·eq l = refl
-      go Ordering·gt l = absurd (omega arith)
-
-  closest-up : d < n % d * 2 → closest n d ≡ n / d + 1
-  closest-up h = go (compare (n % d * 2) d) (compares (n % d * 2) d)
-    where
-      go : (o : Ordering) → Compares o (n % d * 2) d → nearest (n / d) o ≡ n / d + 1
-      go Ordering·lt l = absurd (omega arith)
-      go Ordering·eq l = absurd (omega arith)
-      go Ordering·gt l = omega arith
+closest-at : (n d : ℕ) (o : Ordering) → Compares o (n % d * 2) d → closest n d ≡ nearest (n / d) o
+closest-at n d o h = ap (nearest (n / d)) (compare-is (n % d * 2) d o h)
 
 -- ---- n has f + 1 + k digits, and stands for n * 2 ^ s
 module _ (f n s k : ℕ) (long : size n ≡ f + 1 + k) where
@@ -120,18 +98,18 @@ module _ (f n s k : ℕ) (long : size n ≡ f + 1 + k) where
       | inr p ↦
           let ne : left ≡ 0 → ⊥ = λ e. omega arith in
           ap (λ (b : Bool). record { place = u + q; exact = b }) (ne-eqb _ _ ne)
-          ∙ rounding-is f (n * 2 ^ s) (u + q) false (round-long ∙ omega (arith, closest-down n (2 ^ k) (omega (arith, twice)))) (rest-inexact (omega arith))
+          ∙ rounding-is f (n * 2 ^ s) (u + q) false (round-long ∙ omega (arith, closest-at n (2 ^ k) Ordering·lt (omega (arith, twice)))) (rest-inexact (omega arith))
     ]
 
     pub long-tie : left ≡ half → record { place = u + q + q % 2; exact = false } ≡ roundingOf f (n * 2 ^ s)
     long-tie e =
         rounding-is f (n * 2 ^ s) (u + q + q % 2) false
-        (round-long ∙ ap (λ (x : ℕ). (s + k) * 2 ^ f + x) (closest-tie n (2 ^ k) (omega (arith, twice))) ∙ omega (arith, ap (λ (x : ℕ). x % 2) Q))
+        (round-long ∙ ap (λ (x : ℕ). (s + k) * 2 ^ f + x) (closest-at n (2 ^ k) Ordering·eq (omega (arith, twice))) ∙ omega (arith, ap (λ (x : ℕ). x % 2) Q))
         (rest-inexact (omega (arith, twice, pow-pos k)))
 
     pub long-up : half < left → record { place = u + q + 1; exact = false } ≡ roundingOf f (n * 2 ^ s)
     long-up l =
-        rounding-is f (n * 2 ^ s) (u + q + 1) false (round-long ∙ omega (arith, closest-up n (2 ^ k) (omega (arith, twice)))) (rest-inexact (omega arith))
+        rounding-is f (n * 2 ^ s) (u + q + 1) false (round-long ∙ omega (arith, closest-at n (2 ^ k) Ordering·gt (omega (arith, twice)))) (rest-inexact (omega arith))
 
   pub long-fits : f ≤ 52 → n < 2 ^ 64 → s * 2 ^ f ≤ 2 ^ 63 → (k < 64) × (s ≤ 2 ^ 63) × ((s + k) * 2 ^ f + n / 2 ^ k + 1 < 2 ^ 64)
   long-fits few word high =
@@ -140,18 +118,6 @@ module _ (f n s k : ℕ) (long : size n ≡ f + 1 + k) where
       (omega arith, omega (arith, mul-le-mul-left s (pow-pos f)), omega (arith, mul-le-mul K F, kept-few))
 
 -- ---- what `round_short` makes
-shifted-lt : (n s j : ℕ) → size n + s ≤ j → n * 2 ^ s < 2 ^ j
-shifted-lt n s j h = omega (arith, mul-lt-mul-of-pos-right (size-lt n) (pow-pos s), pow-add 2 (size n) s, pow-mono h)
-
-shifted-ge : (n s j : ℕ) → 0 < n → size n + s ≡ suc j → 2 ^ j ≤ n * 2 ^ s
-shifted-ge n s j p h =
-    let z : 0 < size n = lt-size n 0 p in
-    let e : size n - 1 + s ≡ j = omega arith in
-    omega (arith, mul-le-mul-right (2 ^ s) (size-reaches n (size n - 1) (omega arith)), pow-add 2 (size n - 1) s, ap (λ (x : ℕ). 2 ^ x) e)
-
-magnitude-small : (f q : ℕ) → q ≤ 2 * 2 ^ f → magnitude f q ≡ q
-magnitude-small f q h = ap (magnitude f) (omega arith) ∙ magnitude-is f 0 q (inl refl) h ∙ omega arith
-
 module _ (f n s : ℕ) (some : 1 ≤ f) where
   pub short-zero : n ≡ 0 → record { place = 0; exact = true } ≡ roundingOf f (n * 2 ^ s)
   short-zero z = rounding-exact f 0 (n * 2 ^ s) some (magnitude-small f 0 (omega arith) ∙ omega (arith, ap (λ (x : ℕ). x * 2 ^ s) z))
@@ -164,7 +130,7 @@ module _ (f n s : ℕ) (some : 1 ≤ f) where
   pub short-high : (r u p : ℕ) → 0 < n → size n + r ≡ f + 1 → r < s → u ≡ (s - r) * 2 ^ f → p ≡ n * 2 ^ r → record { place = u + p; exact = true } ≡ roundingOf f (n * 2 ^ s)
   short-high r u p pos h l U E =
       let g : size n + r ≡ suc f = omega arith in
-      let a : 2 ^ f ≤ p = omega (arith, shifted-ge n r f pos g) in
+      let a : 2 ^ f ≤ p = omega (arith, shifted-ge n r f pos (omega arith)) in
       let b : p ≤ 2 * 2 ^ f = omega (arith, shifted-lt n r (suc f) (omega arith), pow-succ' 2 f) in
       let w : r + (s - r) ≡ s = omega arith in
       rounding-exact f (u + p) (n * 2 ^ s) some

@@ -13,7 +13,7 @@ use Rattle.ladder.proofs.Cases.{le-or-lt}
 pub pow-word : (k : ℕ) → k < 64 → 1 * 2 ^ k < 2 ^ 64
 pow-word k h = omega (arith, pow-lt h)
 
-pub past : (n k : ℕ) → n < 2 ^ 64 → 64 ≤ k → n < 2 ^ k
+past : (n k : ℕ) → n < 2 ^ 64 → 64 ≤ k → n < 2 ^ k
 past n k h l = lt-of-lt-of-le h (pow-mono l)
 
 pub past-div : (n k : ℕ) → n < 2 ^ 64 → 64 ≤ k → 0 ≡ n / 2 ^ k

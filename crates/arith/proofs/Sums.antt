@@ -8,13 +8,12 @@ use lib.Dec.{ltb, eqb}
 use borrow.Author.Tests.{lt-ltb, le-ltb, eq-eqb, ne-eqb}
 use Rattle.ladder.specs.Magnitude.{magnitude}
 use Rattle.ladder.specs.Rounding.{round}
-use Rattle.ladder.specs.Ordinal as L
 use Rattle.ladder.specs.Ordinal.{above, below}
 use Rattle.ladder.specs.Sum.{gains, losses, rounded}
 use Rattle.ladder.specs.Sum as S
 use Rattle.ladder.proofs.Cases.{equal-or-not}
-use Rattle.ladder.proofs.Magnitude.{magnitude-zero}
-use Rattle.ladder.proofs.Sum.{round-zero}
+use Rattle.ladder.proofs.Ordinals.{signed-value}
+use Rattle.ladder.proofs.Sum.{rounded-up, rounded-down}
 use Rattle.arith.specs.declared.format.Format.{Format}
 use Rattle.arith.specs.declared.exact.Exact.{Exact}
 use Rattle.arith.specs.declared.rounding.Rounded.{Rounded}
@@ -66,19 +65,16 @@ module _ (F : Format) (ok : Sound F) where
 
   -- n units with the sign b, as p above zero and q below
   rounded-signed : (b : Bool) (n p q : ℕ) → cond b 0 n ≡ p - q → cond b n 0 ≡ q - p → rounded f e p q ≡ cond b (s - min (round f n) (F .infinity)) (s + min (round f n) (F .infinity))
-  unfolding rounded
-  rounded-signed true n p q u d = omega (arith, ok .sign, ok .infinity, ap (round f) d, round-zero f (p - q) (ok .some) (sym u))
-  rounded-signed false n p q u d = omega (arith, ok .sign, ok .infinity, ap (round f) u, round-zero f (q - p) (ok .some) (sym d))
+  rounded-signed true n p q u d = omega (arith, ok .sign, ok .infinity, ap (round f) d, rounded-down f e (ok .some) p q (omega arith))
+  rounded-signed false n p q u d = omega (arith, ok .sign, ok .infinity, ap (round f) u, rounded-up f e (ok .some) p q (omega arith))
 
   -- m with the sign b has exactly the value p - q where its size is n
   exact-signed : (b : Bool) (n p q m r : ℕ) → cond b 0 n ≡ p - q → cond b n 0 ≡ q - p → m ≤ s → r ≡ cond b (s - m) (s + m) → eqb (above f e r + q) (p + below f e r) ≡ eqb (magnitude f m) n
   exact-signed true n p q m r u d h E =
-      let g = magnitude-zero f (r - L.sign f e) (omega (arith, ok .sign)) in
-      let l : below f e r ≡ magnitude f m = ap (magnitude f) (omega (arith, ok .sign)) in
+      let v = signed-value f e true r m (omega (arith, ok .sign)) in
       same-eqb (above f e r + q) (p + below f e r) (magnitude f m) n (λ z. omega arith) (λ z. omega arith)
   exact-signed false n p q m r u d h E =
-      let g = magnitude-zero f (L.sign f e - r) (omega (arith, ok .sign)) in
-      let l : above f e r ≡ magnitude f m = ap (magnitude f) (omega (arith, ok .sign)) in
+      let v = signed-value f e false r m (omega (arith, ok .sign)) in
       same-eqb (above f e r + q) (p + below f e r) (magnitude f m) n (λ z. omega arith) (λ z. omega arith)
 
 -- t is the exact sum of x and a, and r that sum rounded

@@ -6,7 +6,7 @@ use native.Mathlib.Omega.{arith}
 use borrow.Author.Tests.{leb-true, le-leb}
 use Rattle.ladder.specs.Solution as L
 use Rattle.ladder.specs.Solution.{Bounded}
-use Rattle.ladder.proofs.Ordinals.{pattern-finite, ordinal-pattern}
+use Rattle.ladder.proofs.Ordinals.{ordinal-pattern}
 use Rattle.arith.specs.declared.refusal.Refusal.{Refusal}
 use Rattle.arith.specs.declared.interval.Interval.{Interval}
 use Rattle.arith.specs.declared.interval.Image.{Image}
@@ -16,7 +16,7 @@ use Rattle.arith.specs.Formats.{isKnown, formatOf}
 use Rattle.arith.specs.Intervals.{Valid, endsFinite, isOrdered, rangeOf, intervalOf, canonicalIn, canonicalOf, span}
 use Rattle.arith.specs.Narrows.{narrowing, written, narrowAnswer, narrowOf}
 use Rattle.arith.proofs.Intervals.{range-ends}
-use Rattle.arith.proofs.Callers.{narrow-valid}
+use Rattle.arith.proofs.Callers.{narrow-valid, written-finite}
 
 -- ---- its canonical form
 module _ (width : ℕ) (I : Interval) where
@@ -74,13 +74,13 @@ module _ (width : ℕ) (I : L.Interval) (b : Bounded (formatOf width .fraction) 
 
   -- and are a valid interval
   pub written-valid : isKnown width ≡ true → I .low ≤ I .high → Valid width (written (formatOf width) I)
-  unfolding endsFinite isOrdered
+  unfolding isOrdered
   written-valid k o =
       let f = formatOf width .fraction in
       let e = formatOf width .exponent in
       record {
         known = k;
-        finite = rw (pattern-finite f e (I .low) (b .low), pattern-finite f e (I .high) (b .high));
+        finite = written-finite (formatOf width) I b;
         ordered = rw (ordinal-pattern f e (I .low) (b .low), ordinal-pattern f e (I .high) (b .high)) (le-leb _ _ o);
       }
 

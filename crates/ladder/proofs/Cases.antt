@@ -1,5 +1,5 @@
 -- How two numbers compare, to take a proof apart by. Assumes nothing.
-use mathlib.Core.Path.{_≡_, subst}
+use mathlib.Core.Path.{_≡_, refl, subst}
 use mathlib.Core.Logic.{_⊎_, inl, inr}
 use mathlib.Core.Bool.{not}
 use Prim.Native.Nat.{ℕ, _≤_, _<_, compare, Ordering, Ordering·lt, Ordering·eq, Ordering·gt}
@@ -37,3 +37,17 @@ compares a b = go (compare a b) (leb→le a b) (nleb→lt a b) (eqb→eq a b) (�
     go Ordering·lt h k e n = lt-of-le-ne (h tt) n
     go Ordering·eq h k e n = e tt
     go Ordering·gt h k e n = k tt
+
+pub compare-is : (a b : ℕ) (o : Ordering) → Compares o a b → compare a b ≡ o
+compare-is a b o h = go (compare a b) o (compares a b) h
+  where
+    go : (p q : Ordering) → Compares p a b → Compares q a b → p ≡ q
+    go Ordering·lt Ordering·lt l h = refl
+    go Ordering·eq Ordering·eq l h = refl
+    go Ordering·gt Ordering·gt l h = refl
+    go Ordering·lt Ordering·eq l h = absurd (omega arith)
+    go Ordering·lt Ordering·gt l h = absurd (omega arith)
+    go Ordering·eq Ordering·lt l h = absurd (omega arith)
+    go Ordering·eq Ordering·gt l h = absurd (omega arith)
+    go Ordering·gt Ordering·lt l h = absurd (omega arith)
+    go Ordering·gt Ordering·eq l h = absurd (omega arith)

@@ -1,4 +1,4 @@
--- The number of binary digits of a number from a power of two on, of one shifted left, and of a half. Assumes nothing.
+-- The number of binary digits of a number from a power of two on, of one shifted left, which lies between two powers of two, and of a half. Assumes nothing.
 use mathlib.Core.Path.{_≡_, ap}
 use mathlib.Core.Logic.{inl, inr}
 use Prim.Native.Nat.{ℕ, _+_, _-_, _*_, _/_, _^_, _≤_, _<_}
@@ -14,16 +14,23 @@ use Rattle.ladder.proofs.Rounding.{even-pow}
 pub lt-size : (n j : ℕ) → 2 ^ j ≤ n → j < size n
 lt-size n j h = lt-of-not-le (λ (g : size n ≤ j). not-le-of-lt (lt-of-lt-of-le (size-lt n) (pow-mono g)) h)
 
+-- ---- shifted left by t
+pub shifted-lt : (n t j : ℕ) → size n + t ≤ j → n * 2 ^ t < 2 ^ j
+shifted-lt n t j h = omega (arith, mul-lt-mul-of-pos-right (size-lt n) (pow-pos t), pow-add 2 (size n) t, pow-mono h)
+
+pub shifted-ge : (n t j : ℕ) → 0 < n → j < size n + t → 2 ^ j ≤ n * 2 ^ t
+shifted-ge n t j p h =
+    let z = lt-size n 0 p in
+    omega (arith, mul-le-mul-right (2 ^ t) (size-reaches n (size n - 1) (omega arith)), pow-add 2 (size n - 1) t, pow-mono {i = j} {j = size n - 1 + t} (omega arith))
+
 pub size-scale : (n t : ℕ) → 0 < n → size (n * 2 ^ t) ≡ size n + t
-size-scale n t N =
-    let z = size n in
-    let p : 0 < z = lt-size n 0 N in
-    let lo : 2 ^ (z - 1) * 2 ^ t ≤ n * 2 ^ t = mul-le-mul-right (2 ^ t) (size-reaches n (z - 1) (omega arith)) in
-    let hi : n * 2 ^ t < 2 ^ z * 2 ^ t = mul-lt-mul-of-pos-right (size-lt n) (pow-pos t) in
-    let a : size (n * 2 ^ t) ≤ z + t = size-le (n * 2 ^ t) (z + t) (omega (arith, pow-add 2 z t)) in
-    let b : z - 1 + t < size (n * 2 ^ t) = lt-size (n * 2 ^ t) (z - 1 + t) (omega (arith, pow-add 2 (z - 1) t)) in
+size-scale n t p =
+    let z = lt-size n 0 p in
+    let a = size-le (n * 2 ^ t) (size n + t) (shifted-lt n t (size n + t) (omega arith)) in
+    let b = lt-size (n * 2 ^ t) (size n - 1 + t) (shifted-ge n t (size n - 1 + t) p (omega arith)) in
     omega arith
 
+-- ---- halved
 pub size-half : (n : ℕ) → size (n / 2) ≡ size n - 1
 size-half n =
     let z = size n in

@@ -63,6 +63,10 @@ module _ (f e : ℕ) (X A B : Interval) where
       pub hull-b : Within B B'
       hull-b = spans-within (HasB f e X A B) B B' (λ y w. w .solution .b-in) (h .bs)
 
+      -- finite ends stay finite
+      pub hull-bounded : Bounded f e X → Bounded f e A → Bounded f e B → Bounded f e X' × Bounded f e A' × Bounded f e B'
+      hull-bounded x a b = (within-bounded x hull-x, within-bounded a hull-a, within-bounded b hull-b)
+
       -- the ends of the result stand in triples of the result
       hull-again : Hull f e X' A' B' X' A' B'
       hull-again =

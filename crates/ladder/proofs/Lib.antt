@@ -24,6 +24,7 @@ pub mod Hull
 pub mod Frontier
 pub mod Granularity
 pub mod Clamp
+pub mod Neighbours
 pub mod Skips
 pub mod Walk
 pub mod Staircase

@@ -14,7 +14,7 @@ magnitude-at : (f k t : ℕ) → t < 2 ^ f → magnitude f (k * 2 ^ f + t) ≡ s
 unfolding magnitude
 magnitude-at f k t l = rw (digits-div k l, digits-mod k l)
 
-pub magnitude-low : (f m : ℕ) → m < 2 ^ f → magnitude f m ≡ m
+magnitude-low : (f m : ℕ) → m < 2 ^ f → magnitude f m ≡ m
 magnitude-low f m l = ap (magnitude f) (omega arith) ∙ magnitude-at f 0 m l
 
 -- a binade's step is 2^k; its end, the next power of two, is counted in
@@ -42,6 +42,10 @@ magnitude-is f k q (inl e) b = elim (le-or-lt (2 ^ f) q) [
   | inl a ↦ magnitude-high f k q a b
   | inr l ↦ rw e (ap (magnitude f) (omega arith) ∙ magnitude-low f q l ∙ omega arith)
 ]
+
+-- up to the end of the first normal binade the step is one unit
+pub magnitude-small : (f q : ℕ) → q ≤ 2 * 2 ^ f → magnitude f q ≡ q
+magnitude-small f q h = ap (magnitude f) (omega arith) ∙ magnitude-is f 0 q (inl refl) h ∙ omega arith
 
 -- ---- m taken apart
 pub record Parts (f m k q : ℕ) : Type 0 where
@@ -101,7 +105,7 @@ pub lt-of-magnitude : (f m m' : ℕ) → magnitude f m < magnitude f m' → m < 
 lt-of-magnitude f m m' h = lt-of-not-le (λ (g : m' ≤ m). not-le-of-lt h (magnitude-le f m' m g))
 
 pub magnitude-zero : (f m : ℕ) → m ≡ 0 → magnitude f m ≡ 0
-magnitude-zero f m e = ap (magnitude f) e ∙ magnitude-low f 0 (pow-pos f)
+magnitude-zero f m e = ap (magnitude f) e ∙ magnitude-small f 0 (omega arith)
 
 -- the value by the textbook's formula
 pub magnitude-normal : (f m : ℕ) → 2 ^ f ≤ m → magnitude f m ≡ (2 ^ f + m % 2 ^ f) * 2 ^ (m / 2 ^ f - 1)

@@ -1,8 +1,8 @@
--- Multiples of a power of two: what divides a number of units divides what it rounds to, and a large value is a multiple. Assumes nothing.
+-- Multiples of a power of two: what divides a number of units divides what it rounds to, and a large value is a multiple. Also the multiple of a difference. Assumes nothing.
 use mathlib.Core.Path.{_≡_, sym, ap, _∙_, subst}
 use mathlib.Core.Logic.{inl, inr}
 use Prim.Native.Nat.{ℕ, suc, _+_, _-_, _*_, _^_, _%_, _≤_, _<_, _∣_}
-use native.Mathlib.Nat.{dvd-mul-left, dvd-mul-left-of-dvd, dvd-trans, dvd-add, mod-eq-zero-of-dvd, mul-le-mul-right, pow-succ', mul-lt-mul-of-pos-right}
+use native.Mathlib.Nat.{mul-comm, mul-sub, dvd-mul-left, dvd-mul-left-of-dvd, dvd-trans, dvd-add, mod-eq-zero-of-dvd, mul-le-mul-right, pow-succ', mul-lt-mul-of-pos-right}
 use native.Mathlib.Omega.{arith}
 use lib.Arith.{digits-mod}
 use lib.Pow.{pow-add, pow-pos, pow-mono}
@@ -12,6 +12,11 @@ use Rattle.ladder.proofs.Cases.{le-or-lt}
 use Rattle.ladder.proofs.Magnitude.{parts, magnitude-parts}
 use Rattle.ladder.proofs.Rounding.{floor, exact, half}
 
+-- a difference times c
+pub sub-mul : (a b c : ℕ) → (a - b) * c ≡ a * c - b * c
+sub-mul a b c = mul-comm (a - b) c ∙ mul-sub c a b ∙ omega arith
+
+-- ---- powers of two
 pub pow-dvd : (j k : ℕ) → j ≤ k → 2 ^ j ∣ 2 ^ k
 pow-dvd j k h = subst (λ (x : ℕ). 2 ^ j ∣ x) (sym (pow-add 2 (k - j) j) ∙ ap (λ (x : ℕ). 2 ^ x) (omega arith)) (dvd-mul-left (2 ^ j) (2 ^ (k - j)))
 

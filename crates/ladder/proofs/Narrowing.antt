@@ -3,43 +3,42 @@ use mathlib.Core.Path.{_≡_, ap, ap₂, _∙_, subst}
 use Prim.Native.Nat.{ℕ}
 use lib.Dec.{T, eqb, eqb→eq, eqb-refl}
 use Rattle.ladder.specs.Sum.{sum}
-use Rattle.ladder.specs.Solution.{Interval}
-use Rattle.ladder.specs.Narrowing.{anyIn, Extent, empty, over, xExtent, aExtent, bExtent, Narrowing, none, ends, gather, narrowing, HasX, HasA, HasB, IsNarrowing}
+use Rattle.ladder.specs.Solution.{Interval, In}
+use Rattle.ladder.specs.Narrowing.{anyIn, extentIn, Extent, empty, over, xExtent, aExtent, bExtent, Narrowing, none, ends, gather, narrowing, HasX, HasA, HasB, IsNarrowing}
 use Rattle.ladder.proofs.Extents.{some-in, any-in, IsExtent, extent-in, extent-unique}
 
-module _ (f e : ℕ) (X A B : Interval) where
-  same : (x a b : ℕ) → sum f e x a ≡ b → T (eqb (sum f e x a) b)
-  same x a b p = subst (λ (z : ℕ). T (eqb (sum f e x a) z)) p (eqb-refl (sum f e x a))
+-- P holds of the i inside I that fulfil an equation with a j inside J and a k inside K
+module _
+    (I J K : Interval) (l r : ℕ → ℕ → ℕ → ℕ) (P : ℕ → Type 0) (to : (i j k : ℕ) → In I i → In J j → In K k → l i j k ≡ r i j k → P i)
+    (j k : (i : ℕ) → P i → ℕ) (from : (i : ℕ) (h : P i) → In I i × In J (j i h) × In K (k i h) × (l i (j i h) (k i h) ≡ r i (j i h) (k i h))) where
+  extent-is : IsExtent P (extentIn I (λ i. anyIn J (λ j. anyIn K (λ k. eqb (l i j k) (r i j k)))))
+  extent-is =
+      extent-in I _ P
+      (λ i g h. let u = some-in J _ h in let v = some-in K (λ k. eqb (l i (u .z) k) (r i (u .z) k)) (u .holds) in to i (u .z) (v .z) g (u .inside) (v .inside) (eqb→eq _ _ (v .holds)))
+      (λ i h. let w = from i h in
+      (w .0, any-in J _ (j i h) (w .1) (any-in K (λ k. eqb (l i (j i h) k) (r i (j i h) k)) (k i h) (w .2) (subst (λ (z : ℕ). T (eqb (l i (j i h) (k i h)) z)) (w .3) (eqb-refl (l i (j i h) (k i h)))))))
 
+module _ (f e : ℕ) (X A B : Interval) where
   x-extent-is : IsExtent (HasX f e X A B) (xExtent f e X A B)
   unfolding xExtent
-  x-extent-is = extent-in X _ (HasX f e X A B)
-      (λ x i h.
-      let r = some-in A (λ a. anyIn B (λ b. eqb (sum f e x a) b)) h in
-      let s = some-in B (λ b. eqb (sum f e x (r .z)) b) (r .holds) in
-      record { a = r .z; b = s .z; solution = record { x-in = i; a-in = r .inside; b-in = s .inside; is = eqb→eq _ _ (s .holds) } })
-      (λ x w. let s = w .solution in
-      (s .x-in, any-in A (λ a. anyIn B (λ b. eqb (sum f e x a) b)) (w .a) (s .a-in) (any-in B (λ b. eqb (sum f e x (w .a)) b) (w .b) (s .b-in) (same x (w .a) (w .b) (s .is)))))
+  x-extent-is =
+      extent-is X A B (λ x a b. sum f e x a) (λ x a b. b) (HasX f e X A B)
+      (λ x a b i j k p. record { a = a; b = b; solution = record { x-in = i; a-in = j; b-in = k; is = p } })
+      (λ x w. w .a) (λ x w. w .b) (λ x w. let s = w .solution in (s .x-in, s .a-in, s .b-in, s .is))
 
   a-extent-is : IsExtent (HasA f e X A B) (aExtent f e X A B)
   unfolding aExtent
-  a-extent-is = extent-in A _ (HasA f e X A B)
-      (λ a i h.
-      let r = some-in X (λ x. anyIn B (λ b. eqb (sum f e x a) b)) h in
-      let s = some-in B (λ b. eqb (sum f e (r .z) a) b) (r .holds) in
-      record { x = r .z; b = s .z; solution = record { x-in = r .inside; a-in = i; b-in = s .inside; is = eqb→eq _ _ (s .holds) } })
-      (λ a w. let s = w .solution in
-      (s .a-in, any-in X (λ x. anyIn B (λ b. eqb (sum f e x a) b)) (w .x) (s .x-in) (any-in B (λ b. eqb (sum f e (w .x) a) b) (w .b) (s .b-in) (same (w .x) a (w .b) (s .is)))))
+  a-extent-is =
+      extent-is A X B (λ a x b. sum f e x a) (λ a x b. b) (HasA f e X A B)
+      (λ a x b j i k p. record { x = x; b = b; solution = record { x-in = i; a-in = j; b-in = k; is = p } })
+      (λ a w. w .x) (λ a w. w .b) (λ a w. let s = w .solution in (s .a-in, s .x-in, s .b-in, s .is))
 
   b-extent-is : IsExtent (HasB f e X A B) (bExtent f e X A B)
   unfolding bExtent
-  b-extent-is = extent-in B _ (HasB f e X A B)
-      (λ b i h.
-      let r = some-in X (λ x. anyIn A (λ a. eqb (sum f e x a) b)) h in
-      let s = some-in A (λ a. eqb (sum f e (r .z) a) b) (r .holds) in
-      record { x = r .z; a = s .z; solution = record { x-in = r .inside; a-in = s .inside; b-in = i; is = eqb→eq _ _ (s .holds) } })
-      (λ b w. let s = w .solution in
-      (s .b-in, any-in X (λ x. anyIn A (λ a. eqb (sum f e x a) b)) (w .x) (s .x-in) (any-in A (λ a. eqb (sum f e (w .x) a) b) (w .a) (s .a-in) (same (w .x) (w .a) b (s .is)))))
+  b-extent-is =
+      extent-is B X A (λ b x a. sum f e x a) (λ b x a. b) (HasB f e X A B)
+      (λ b x a k i j p. record { x = x; a = a; solution = record { x-in = i; a-in = j; b-in = k; is = p } })
+      (λ b w. w .x) (λ b w. w .a) (λ b w. let s = w .solution in (s .b-in, s .x-in, s .a-in, s .is))
 
   pub narrowing-is : IsNarrowing f e X A B (narrowing f e X A B)
   unfolding narrowing

@@ -1,5 +1,5 @@
 -- The sum is the finite float nearest to the exact sum, and at equal distance the one with even m. Assumes nothing.
-use mathlib.Core.Path.{_≡_, refl, sym, ap, _∙_, subst}
+use mathlib.Core.Path.{_≡_, refl, ap, _∙_}
 use mathlib.Core.Logic.{_≢_, inl, inr}
 use Prim.Native.Nat.{ℕ, _+_, _-_, _*_, _≤_}
 use native.Mathlib.Omega.{arith}
@@ -12,7 +12,7 @@ use Rattle.ladder.proofs.Cases.{le-or-lt}
 use Rattle.ladder.proofs.Magnitude.{magnitude-lt, magnitude-zero}
 use Rattle.ladder.proofs.Rounding.{round-nearest, round-even}
 use Rattle.ladder.proofs.Ordinals.{sign-even, above-none, below-none, mirror-finite, finite-twice}
-use Rattle.ladder.proofs.Sum.{rounded-up, rounded-mirror, above-mirror, below-mirror}
+use Rattle.ladder.proofs.Sum.{rounded-up, rounded-mirror, mirror-rounded, above-mirror, below-mirror}
 
 module _ (f e : ℕ) (some : 1 ≤ f) where
   abbrev s : ℕ
@@ -71,10 +71,8 @@ module _ (f e : ℕ) (some : 1 ≤ f) where
   rounded-nearest p n fin = elim (le-or-lt n p) [
     | inl h ↦ up p n h fin
     | inr h ↦
-        let m = rounded-mirror f e some n p in
-        let r = rounded f e n p in
-        let R : Finite f e r = subst (Finite f e) (sym (rounded-mirror f e some p n)) (mirror-finite f e (rounded f e p n) fin) in
-        subst (Nearest f e p n) (sym m) (turned p n r R (up n p (omega arith) R))
+        let R = mirror-rounded f e some p n fin in
+        rw (rounded-mirror f e some n p) (turned p n (rounded f e n p) R (up n p (omega arith) R))
   ]
 
   pub sum-nearest : (x a : ℕ) → Finite f e (sum f e x a) → Nearest f e (gains f e x a) (losses f e x a) (sum f e x a)

@@ -1,11 +1,12 @@
 -- Patterns and ordinals: a finite pattern's ordinal is finite, one leads back to the other, and the order of ordinals is the order of values, so that a value determines its ordinal. Assumes nothing.
 use mathlib.Core.Path.{_≡_, sym, ap, _∙_}
 use mathlib.Core.Logic.{_↔_, inl, inr}
-use mathlib.Core.Bool.{true}
+use mathlib.Core.Bool.{Bool, true, false, cond}
 use Prim.Native.Nat.{ℕ, _+_, _-_, _*_, _^_, _≤_, _<_}
 use native.Mathlib.Omega.{arith}
 use lib.Pow.{pow-pos, pow-add}
 use borrow.Author.Tests.{lt-ltb, le-ltb, eq-eqb, ne-eqb, ltb-true}
+use Rattle.ladder.specs.Magnitude.{magnitude}
 use Rattle.ladder.specs.Ordinal.{sign, infinity, isFinite, ordinal, pattern, canonical, mirrored, Finite, above, below}
 use Rattle.ladder.proofs.Cases.{le-or-lt, trichotomy}
 use Rattle.ladder.proofs.Magnitude.{magnitude-lt, magnitude-le, magnitude-zero}
@@ -134,6 +135,11 @@ module _ (f e : ℕ) where
 
   pub below-none : (r : ℕ) → s ≤ r → below f e r ≡ 0
   below-none r h = magnitude-zero f (s - r) (omega arith)
+
+  -- m with a sign, set where b is true
+  pub signed-value : (b : Bool) (r m : ℕ) → r + cond b m 0 ≡ s + cond b 0 m → (above f e r ≡ cond b 0 (magnitude f m)) × (below f e r ≡ cond b (magnitude f m) 0)
+  signed-value true r m h = (above-none r (omega arith), ap (magnitude f) (omega arith))
+  signed-value false r m h = (ap (magnitude f) (omega arith), below-none r (omega arith))
 
 -- ---- mirrored
 pub mirror-finite : (f e r : ℕ) → Finite f e r → Finite f e (mirrored f e r)

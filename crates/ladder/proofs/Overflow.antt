@@ -16,7 +16,7 @@ use Rattle.ladder.proofs.Magnitude.{magnitude-high}
 use Rattle.ladder.proofs.Rounding.{even-pow}
 use Rattle.ladder.proofs.Central.{le-round}
 use Rattle.ladder.proofs.Ordinals.{infinity-lt-sign}
-use Rattle.ladder.proofs.Sum.{rounded-up, rounded-down}
+use Rattle.ladder.proofs.Sum.{rounded-up, mirror-rounded}
 
 halves : (d t s : ℕ) → s ≡ 2 * t → d * s + suc d * s ≡ 2 * ((2 * d + 1) * t)
 halves d t s e = omega (arith, ap (λ (x : ℕ). d * x) e)
@@ -56,26 +56,23 @@ module _ (f e : ℕ) (some : 1 ≤ f) (two : 2 ≤ e) where
       let w : magnitude f ((2 ^ e - 1) * 2 ^ f) - 2 ^ k ≡ (4 * 2 ^ f - 1) * 2 ^ k = ap (λ (x : ℕ). x - 2 ^ k) v ∙ less-half (4 * 2 ^ f - 1) (2 ^ f) (2 ^ suc k) (2 ^ k) (omega (arith, pow-pos f)) (pow-succ' 2 k) in
       (λ h. omega (arith, c .0 (omega (arith, pow-pos f))), λ h. omega (arith, c .1 (omega arith)))
 
+  -- p - n units are at least zero
+  up : (p n : ℕ) → n ≤ p → (Finite f e (rounded f e p n) → ⊥) ↔ (bound f e ≤ p - n)
+  up p n h =
+      let c = infinity-lt-sign f e in
+      let r = rounded-up f e some p n h in
+      let o = overflow (p - n) in (
+        λ no. elim (le-or-lt (infinity f e) (round f (p - n))) [
+          | inl l ↦ o .0 l
+          | inr l ↦ absurd (no (record { low = omega arith; high = omega arith }))
+        ],
+        λ b y. let l = o .1 b in omega (arith, y .high),
+      )
+
   rounded-overflow : (p n : ℕ) → (Finite f e (rounded f e p n) → ⊥) ↔ (bound f e ≤ distance p n)
-  rounded-overflow p n = let c = infinity-lt-sign f e in elim (le-or-lt p n) [
-    | inl h ↦
-        let r = rounded-down f e some p n h in
-        let o = overflow (n - p) in (
-          λ no. elim (le-or-lt (infinity f e) (round f (n - p))) [
-            | inl l ↦ omega (arith, o .0 l)
-            | inr l ↦ absurd (no (record { low = omega arith; high = omega arith }))
-          ],
-          λ b y. let l = o .1 (omega arith) in omega (arith, y .low),
-        )
-    | inr h ↦
-        let r = rounded-up f e some p n (omega arith) in
-        let o = overflow (p - n) in (
-          λ no. elim (le-or-lt (infinity f e) (round f (p - n))) [
-            | inl l ↦ omega (arith, o .0 l)
-            | inr l ↦ absurd (no (record { low = omega arith; high = omega arith }))
-          ],
-          λ b y. let l = o .1 (omega arith) in omega (arith, y .high),
-        )
+  rounded-overflow p n = elim (le-or-lt n p) [
+    | inl h ↦ let u = up p n h in (λ no. omega (arith, u .0 no), λ b. u .1 (omega arith))
+    | inr h ↦ let u = up n p (omega arith) in (λ no. omega (arith, u .0 (λ y. no (mirror-rounded f e some n p y))), λ b y. u .1 (omega arith) (mirror-rounded f e some p n y))
   ]
 
   pub no-finite-sum : (x a : ℕ) → (Finite f e (sum f e x a) → ⊥) ↔ (bound f e ≤ distance (gains f e x a) (losses f e x a))

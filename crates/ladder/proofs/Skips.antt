@@ -165,45 +165,47 @@ module _ (f e : ℕ) (some : 1 ≤ f) where
       omega arith
 
   -- ---- mirrored
-  pub mirror-skips : (B : Interval) (z y : ℕ) → z ≤ 2 * s → y + 1 ≤ 2 * s → B .low ≤ 2 * s → B .high ≤ 2 * s → Skips f e B z y → Skips f e (reflection f e B) (mirrored f e z) (mirrored f e (y + 1))
-  mirror-skips B z y h l b b' w =
-      let at : mirrored f e (y + 1) + 1 ≡ mirrored f e y = omega arith in
-      record {
-        short = omega (arith, sum-mirror f e some z (y + 1) h l, w .past, sum-range f e some z (y + 1) .1, infinity-lt-sign f e);
-        past = subst (λ (i : ℕ). reflection f e B .high < sum f e (mirrored f e z) i) (sym at) (omega (arith, sum-mirror f e some z y h (omega arith), w .short));
-      }
+  -- what does not lie above a bounded interval has a mirror image
+  under-twice : (I : Interval) → Bounded f e I → (y : ℕ) → y ≤ I .high → y ≤ 2 * s
+  under-twice I n y h = omega (arith, n .high .high, infinity-lt-sign f e)
+
+  module _ (B : Interval) (n : Bounded f e B) where
+    abbrev R : Interval
+    R = reflection f e B
+
+    pub mirror-skips : (z y : ℕ) → z ≤ 2 * s → y + 1 ≤ 2 * s → Skips f e B z y → Skips f e R (mirrored f e z) (mirrored f e (y + 1))
+    mirror-skips z y h l w =
+        let c = infinity-lt-sign f e in
+        let at : mirrored f e (y + 1) + 1 ≡ mirrored f e y = omega arith in
+        record {
+          short = omega (arith, sum-mirror f e some z (y + 1) h l, w .past, sum-range f e some z (y + 1) .1);
+          past = omega (arith, ap (sum f e (mirrored f e z)) at, sum-mirror f e some z y h (omega arith), w .short, n .low .high);
+        }
+
+    mirror-multiple : (k : ℕ) → SomeMultiple f k (s - B .high) (s - B .low) → SomeMultiple f k (R .low - s) (R .high - s)
+    mirror-multiple k t = record { m = t .m; low = omega (arith, t .low); high = omega (arith, t .high); divides = t .divides }
 
   -- ---- no turn that skips B is followed by another
   module _ (X A B : Interval) (nx : Bounded f e X) (na : Bounded f e A) (nb : Bounded f e B) where
     -- up past B with q, then down short of it
     pub once-up : Fine f e X A B → (y q c : ℕ) → X .low ≤ y → y + 1 ≤ X .high → A .low ≤ c → c < q → q ≤ A .high → Skips f e B q y → Skips f e B (y + 1) c → ⊥
-    once-up (zero-in l h) y q c i i' j o j' v w = zero-in-none B l h q y (omega (arith, na .high .high, infinity-lt-sign f e)) v
+    once-up (zero-in l h) y q c i i' j o j' v w = zero-in-none B l h q y (under-twice A na q j') v
     once-up (positive k u t x a) y q c i i' j o j' v w = positive-up B nb (omega (arith, t .low, t .high)) k u t y q c o (omega arith) (omega arith) v w
     once-up (negative k u t x a) y q c i i' j o j' v w =
-        let r = infinity-lt-sign f e in
-        let xh = nx .high .high in
-        let ah = na .high .high in
-        let bh = nb .high .high in
-        let bl = nb .low .high in
-        let R = reflection f e B in
-        let m : SomeMultiple f (k - 1) (R .low - s) (R .high - s) = record { m = t .m; low = omega (arith, t .low); high = omega (arith, t .high); divides = t .divides } in
-        let v' = mirror-skips B q y (omega arith) (omega arith) (omega arith) (omega arith) v in
-        let w' = mirror-skips B (y + 1) c (omega arith) (omega arith) (omega arith) (omega arith) w in
-        positive-down R (mirror-bounded f e B nb) (omega (arith, t .low, t .high)) k (omega arith) m (mirrored f e q) (mirrored f e (y + 1)) (mirrored f e (c + 1)) (omega arith) (omega arith) (omega arith) v' w'
+        let b = under-twice X nx (y + 1) i' in
+        let d = under-twice A na q j' in
+        let v' = mirror-skips B nb q y d b v in
+        let w' = mirror-skips B nb (y + 1) c b (omega arith) w in
+        positive-down (R B nb) (mirror-bounded f e B nb) (omega (arith, t .low, t .high)) k (omega arith) (mirror-multiple B nb (k - 1) t) (mirrored f e q) (mirrored f e (y + 1)) (mirrored f e (c + 1)) (omega arith) (omega arith) (omega arith) v' w'
 
     -- down short of B with p, then up past it
     pub once-down : Fine f e X A B → (p c y : ℕ) → X .low ≤ p → p ≤ y → y + 1 ≤ X .high → A .low ≤ c → c + 1 ≤ A .high → Skips f e B p c → Skips f e B c y → ⊥
-    once-down (zero-in l h) p c y i o i' j j' v w = zero-in-none B l h p c (omega (arith, nx .high .high, infinity-lt-sign f e)) v
+    once-down (zero-in l h) p c y i o i' j j' v w = zero-in-none B l h p c (under-twice X nx p (omega arith)) v
     once-down (positive k u t x a) p c y i o i' j j' v w = positive-down B nb (omega (arith, t .low, t .high)) k u t p c y o (omega arith) (omega arith) v w
     once-down (negative k u t x a) p c y i o i' j j' v w =
-        let r = infinity-lt-sign f e in
-        let xh = nx .high .high in
-        let ah = na .high .high in
-        let bh = nb .high .high in
-        let bl = nb .low .high in
-        let R = reflection f e B in
-        let m : SomeMultiple f (k - 1) (R .low - s) (R .high - s) = record { m = t .m; low = omega (arith, t .low); high = omega (arith, t .high); divides = t .divides } in
-        let v' = mirror-skips B p c (omega arith) (omega arith) (omega arith) (omega arith) v in
-        let w' = mirror-skips B c y (omega arith) (omega arith) (omega arith) (omega arith) w in
+        let b = under-twice X nx (y + 1) i' in
+        let d = under-twice A na (c + 1) j' in
+        let v' = mirror-skips B nb p c (omega arith) d v in
+        let w' = mirror-skips B nb c y (omega arith) b w in
         let at : mirrored f e (c + 1) + 1 ≡ mirrored f e c = omega arith in
-        positive-up R (mirror-bounded f e B nb) (omega (arith, t .low, t .high)) k (omega arith) m (mirrored f e (c + 1)) (mirrored f e p) (mirrored f e (y + 1)) (omega arith) (omega arith) (omega arith) v' (subst (λ (z : ℕ). Skips f e R z (mirrored f e (y + 1))) (sym at) w')
+        positive-up (R B nb) (mirror-bounded f e B nb) (omega (arith, t .low, t .high)) k (omega arith) (mirror-multiple B nb (k - 1) t) (mirrored f e (c + 1)) (mirrored f e p) (mirrored f e (y + 1)) (omega arith) (omega arith) (omega arith) v' (subst (λ (z : ℕ). Skips f e (R B nb) z (mirrored f e (y + 1))) (sym at) w')

@@ -17,6 +17,7 @@ use Rattle.ladder.proofs.Multiples.{pow-dvd}
 use Rattle.ladder.proofs.Ordinals.{infinity-lt-sign, above-none, below-none}
 use Rattle.ladder.proofs.Solutions.{finite-in, mirror-bounded}
 use Rattle.ladder.proofs.Sum.{rounded-mono, rounded-value, sum-comm, sum-mono}
+use Rattle.ladder.proofs.Neighbours.{short-below, skips-to, skips-before}
 use Rattle.ladder.proofs.Skips.{apart, step-dvd, rounded-shift, short-value, past-value, skips-none, zero-in-none, mirror-skips}
 
 module _ (f e : ℕ) (some : 1 ≤ f) where
@@ -123,22 +124,9 @@ module _ (f e : ℕ) (some : 1 ≤ f) where
       zero-out : In X s → In A b → ⊥
       zero-out i j = no-sum s b i j (sum-zero b n)
 
-      -- what is below the least that reaches b with c falls short
-      short-below : (c y x : ℕ) → Least (Attains f e c b X) y → In X x → x < y → sum f e c x < b
-      short-below c y x l i h = elim (le-or-lt b (sum f e c x)) [
-        | inl g ↦ absurd (omega (arith, l .least x (record { inside = i; enough = subst (λ (t : ℕ). b ≤ t) (sum-comm f e c x) g })))
-        | inr g ↦ g
-      ]
-
-      -- so b is skipped before it
+      -- the step to the least that reaches b with c
       skipped : (c y : ℕ) → In A c → Least (Attains f e c b X) y → X .low < y → Skips f e B c (y - 1)
-      skipped c y j l h =
-          let i = l .holds .inside in
-          let at : y - 1 + 1 ≡ y = omega arith in
-          record {
-            short = short-below c y (y - 1) l (record { low = omega arith; high = omega arith }) (omega arith);
-            past = subst (λ (t : ℕ). b < sum f e c t) (sym at) (subst (λ (t : ℕ). b < t) (sum-comm f e y c) (past y c i j (l .holds .enough)));
-          }
+      skipped c y j l h = skips-before f e c X B y l h (past y c (l .holds .inside) j (l .holds .enough))
 
       -- b above zero, and a step of x below zero skips it: the least x with A's low end is no worse
       low-best : s < b → (y : ℕ) → Least (Attains f e (A .low) b X) y → (x a : ℕ) → In X x → In A a → X .low < x → A .low < a → x ≤ s → b < sum f e x a → Skips f e B a (x - 1) → sum f e x (a - 1) < b
@@ -153,7 +141,7 @@ module _ (f e : ℕ) (some : 1 ≤ f) where
           let ys : y ≤ s = elim (le-or-lt y s) [
             | inl t ↦ t
             | inr t ↦
-                let c1 = short-below (A .low) y s l (record { low = omega arith; high = omega arith }) t in
+                let c1 = short-below f e (A .low) X b y s l (record { low = omega arith; high = omega arith }) t in
                 let c2 : A .low < b = omega (arith, c1, sum-comm f e (A .low) s, sum-zero (A .low) (na .low)) in
                 let c3 : b < a = omega (arith, sum-mono f e some x s a a z (le-refl a), sum-zero a fa) in
                 absurd (zero-out (record { low = omega arith; high = omega arith }) (record { low = omega arith; high = omega arith }))
@@ -189,10 +177,7 @@ module _ (f e : ℕ) (some : 1 ≤ f) where
               let zi = l .holds .inside in
               let yi = m .holds .inside in
               let zj : In A (z - 1) = record { low = omega arith; high = omega arith } in
-              let short : sum f e (X .low) (z - 1) < b = elim (le-or-lt b (sum f e (X .low) (z - 1))) [
-                | inl c ↦ absurd (omega (arith, l .least (z - 1) (record { inside = zj; enough = subst (λ (r : ℕ). b ≤ r) (sum-comm f e (X .low) (z - 1)) c })))
-                | inr c ↦ c
-              ] in
+              let short = short-below f e (X .low) A b z (z - 1) l zj (omega arith) in
               let yl : X .low < y = elim (le-or-lt y (X .low)) [
                 | inl c ↦ absurd (omega (arith, sum-mono f e some y (X .low) (z - 1) (z - 1) c (le-refl (z - 1)), m .holds .enough, short))
                 | inr c ↦ c
@@ -232,56 +217,56 @@ module _ (f e : ℕ) (some : 1 ≤ f) where
         ap' = omega arith
 
         k1 : Skips f e B a (x - 1)
-        k1 = record { short = subst (λ (r : ℕ). r < b) (sum-comm f e (x - 1) a) v; past = subst (λ (r : ℕ). b < sum f e a r) (sym xp) (subst (λ (r : ℕ). b < r) (sum-comm f e x a) g) }
+        k1 = skips-to f e a B x (omega arith) (omega (arith, sum-comm f e (x - 1) a)) (omega (arith, sum-comm f e x a))
 
         k2 : Skips f e B x (a - 1)
-        k2 = record { short = w; past = subst (λ (r : ℕ). b < sum f e x r) (sym ap') g }
+        k2 = skips-to f e x B a (omega arith) w g
 
         nb : Bounded f e B
         nb = record { low = n; high = n }
 
-        positive-case : s < b → AtMost f e (A .low) b X t → AtMost f e (X .low) b A t → t ≤ sum f e x a
-        positive-case up (none q) m = absurd (q (X .high) (record { inside = record { low = omega arith; high = le-refl (X .high) }; enough = r2 }))
-        positive-case up (least y l h) (none q) = absurd (q (A .high) (record { inside = record { low = omega arith; high = le-refl (A .high) }; enough = omega (arith, r1, sum-comm f e (A .high) (X .low)) }))
-        positive-case up (least y l h) (least z m k) = elim (le-or-lt s (x - 1)) [
-          | inl o ↦ elim (le-or-lt s (a - 1)) [
-            | inl o' ↦ elim (le-or-lt (x - 1) a) [
-              | inl q ↦ absurd (skips-none f e some B nb (le-refl b) a (x - 1) o q k1)
-              | inr q ↦ absurd (skips-none f e some B nb (le-refl b) x (a - 1) o' (omega arith) k2)
+        -- with the least that reach b at the two low ends
+        module _ (y z : ℕ) (l : Least (Attains f e (A .low) b X) y) (h : t ≤ sum f e y (A .low)) (m : Least (Attains f e (X .low) b A) z) (k : t ≤ sum f e z (X .low)) where
+          positive-case : s < b → t ≤ sum f e x a
+          positive-case up = elim (le-or-lt s (x - 1)) [
+            | inl o ↦ elim (le-or-lt s (a - 1)) [
+              | inl o' ↦ elim (le-or-lt (x - 1) a) [
+                | inl q ↦ absurd (skips-none f e some B nb (le-refl b) a (x - 1) o q k1)
+                | inr q ↦ absurd (skips-none f e some B nb (le-refl b) x (a - 1) o' (omega arith) k2)
+              ]
+              | inr o' ↦ omega (arith, low-best A X na nx swapped up z m a x j i ha hx (omega arith) (omega (arith, sum-comm f e x a)) k2 (omega (arith, sum-comm f e (x - 1) a)), k, sum-comm f e a x)
             ]
-            | inr o' ↦ omega (arith, low-best A X na nx swapped up z m a x j i ha hx (omega arith) (omega (arith, sum-comm f e x a)) k2 (omega (arith, sum-comm f e (x - 1) a)), k, sum-comm f e a x)
+            | inr o ↦ omega (arith, low-best X A nx na no-sum up y l x a i j hx ha (omega arith) g k1 w, h)
           ]
-          | inr o ↦ omega (arith, low-best X A nx na no-sum up y l x a i j hx ha (omega arith) g k1 w, h)
-        ]
 
-        negative-case : b < s → AtMost f e (A .low) b X t → AtMost f e (X .low) b A t → t ≤ sum f e x a
-        negative-case down (none q) m = absurd (q (X .high) (record { inside = record { low = omega arith; high = le-refl (X .high) }; enough = r2 }))
-        negative-case down (least y l h) (none q) = absurd (q (A .high) (record { inside = record { low = omega arith; high = le-refl (A .high) }; enough = omega (arith, r1, sum-comm f e (A .high) (X .low)) }))
-        negative-case down (least y l h) (least z m k) = elim (le-or-lt s (x - 1)) [
-          | inl o ↦ high-best X A nx na no-sum down z m t k (p3 down z m) x a i j hx ha (omega arith) k1 w (omega arith)
-          | inr o ↦ elim (le-or-lt s (a - 1)) [
-            | inl o' ↦ omega (arith, high-best A X na nx swapped down y l t h (p4 down y l) a x j i ha hx (omega arith) k2 (omega (arith, sum-comm f e (x - 1) a)) (omega (arith, sum-comm f e x a)), sum-comm f e a x)
-            | inr o' ↦ absurd (both o o')
+          negative-case : b < s → t ≤ sum f e x a
+          negative-case down = elim (le-or-lt s (x - 1)) [
+            | inl o ↦ high-best X A nx na no-sum down z m t k (p3 down z m) x a i j hx ha (omega arith) k1 w (omega arith)
+            | inr o ↦ elim (le-or-lt s (a - 1)) [
+              | inl o' ↦ omega (arith, high-best A X na nx swapped down y l t h (p4 down y l) a x j i ha hx (omega arith) k2 (omega (arith, sum-comm f e (x - 1) a)) (omega (arith, sum-comm f e x a)), sum-comm f e a x)
+              | inr o' ↦ absurd (both o o')
+            ]
           ]
-        ]
-          where
-            both : x - 1 < s → a - 1 < s → ⊥
-            both o o' =
-                let r = infinity-lt-sign f e in
-                let R = reflection f e B in
-                let c1 = subst (λ (q : ℕ). Skips f e R (mirrored f e a) (mirrored f e q)) xp (mirror-skips f e some B a (x - 1) (omega arith) (omega arith) (omega arith) (omega arith) k1) in
-                let c2 = subst (λ (q : ℕ). Skips f e R (mirrored f e x) (mirrored f e q)) ap' (mirror-skips f e some B x (a - 1) (omega arith) (omega arith) (omega arith) (omega arith) k2) in
-                elim (le-or-lt a x) [
-                  | inl q ↦ skips-none f e some R (mirror-bounded f e B nb) (le-refl (R .low)) (mirrored f e a) (mirrored f e x) (omega arith) (omega arith) c1
-                  | inr q ↦ skips-none f e some R (mirror-bounded f e B nb) (le-refl (R .low)) (mirrored f e x) (mirrored f e a) (omega arith) (omega arith) c2
-                ]
+            where
+              both : x - 1 < s → a - 1 < s → ⊥
+              both o o' =
+                  let r = infinity-lt-sign f e in
+                  let R = reflection f e B in
+                  let c1 = subst (λ (q : ℕ). Skips f e R (mirrored f e a) (mirrored f e q)) xp (mirror-skips f e some B nb a (x - 1) (omega arith) (omega arith) k1) in
+                  let c2 = subst (λ (q : ℕ). Skips f e R (mirrored f e x) (mirrored f e q)) ap' (mirror-skips f e some B nb x (a - 1) (omega arith) (omega arith) k2) in
+                  elim (le-or-lt a x) [
+                    | inl q ↦ skips-none f e some R (mirror-bounded f e B nb) (le-refl (R .low)) (mirrored f e a) (mirrored f e x) (omega arith) (omega arith) c1
+                    | inr q ↦ skips-none f e some R (mirror-bounded f e B nb) (le-refl (R .low)) (mirrored f e x) (mirrored f e a) (omega arith) (omega arith) c2
+                  ]
 
-        stuck : t ≤ sum f e x a
-        stuck = elim (trichotomy b s) [
-          | inl o ↦ negative-case o p1 p2
+        stuck : AtMost f e (A .low) b X t → AtMost f e (X .low) b A t → t ≤ sum f e x a
+        stuck (none q) m = absurd (q (X .high) (record { inside = record { low = omega arith; high = le-refl (X .high) }; enough = r2 }))
+        stuck (least y l h) (none q) = absurd (q (A .high) (record { inside = record { low = omega arith; high = le-refl (A .high) }; enough = omega (arith, r1, sum-comm f e (A .high) (X .low)) }))
+        stuck (least y l h) (least z m k) = elim (trichotomy b s) [
+          | inl o ↦ negative-case y z l h m k o
           | inr r ↦ elim r [
             | inl o ↦ absurd (zero-in-none f e some B (omega arith) (omega arith) a (x - 1) (omega (arith, na .high .high, infinity-lt-sign f e)) k1)
-            | inr o ↦ positive-case o p1 p2
+            | inr o ↦ positive-case y z l h m k o
           ]
         ]
 
@@ -295,7 +280,7 @@ module _ (f e : ℕ) (some : 1 ≤ f) where
             | inl u ↦ le-trans (down-to k (x - 1) a (omega arith) (record { low = omega arith; high = omega arith }) j u) (sum-mono f e some (x - 1) x a a (omega arith) (le-refl a))
             | inr u ↦ elim (le-or-lt b (sum f e x (a - 1))) [
               | inl w ↦ le-trans (down-to k x (a - 1) (omega arith) i (record { low = omega arith; high = omega arith }) w) (sum-mono f e some x x (a - 1) a (le-refl x) (omega arith))
-              | inr w ↦ stuck x a i j q r (past X A nx na no-sum x a i j g) u w
+              | inr w ↦ stuck x a i j q r (past X A nx na no-sum x a i j g) u w p1 p2
             ]
           ]
         ]

@@ -4,7 +4,7 @@ use mathlib.Core.Path.{_≡_, refl, sym, ap, ap₂, _∙_, subst}
 use mathlib.Core.Logic.{_⊎_, inl, inr}
 use mathlib.Core.Bool.{Bool, true, false, not, cond, _&&_, Bool·beq}
 use Prim.Native.Nat.{ℕ, zero, suc, _+_, _-_, _*_, _/_, _%_, _^_, min, _≤_, _<_}
-use native.Mathlib.Nat.{lt-of-mul-lt-mul-right, mul-lt-mul-of-pos-right, mul-sub, mul-pos, mul-comm, add-mod-left, mod-eq-of-lt, mul-add-mod-self-left, div-lt-iff-lt-mul}
+use native.Mathlib.Nat.{lt-of-mul-lt-mul-right, mul-lt-mul-of-pos-right, mul-pos, add-mod-left, mod-eq-of-lt, mul-add-mod-self-left, div-lt-iff-lt-mul}
 use native.Mathlib.Omega.{arith}
 use lib.Dec.{T, leb, ltb, eqb, lt→ltb, le→leb, not-T, eqb→eq, lit≤}
 use lib.Arith.{le→nltb, lt→nleb}
@@ -20,7 +20,8 @@ use Rattle.ladder.specs.Rounding.{round}
 use Rattle.ladder.specs.Ordinal.{sign, infinity, isFinite, ordinal, pattern, Finite, above, below}
 use Rattle.ladder.specs.Sum.{rounded, sum}
 use Rattle.ladder.proofs.Cases.{le-or-lt}
-use Rattle.ladder.proofs.Ordinals.{infinity-lt-sign, finite-low, finite-high, ordinal-low, ordinal-high, pattern-finite, ordinal-pattern, above-none, below-none}
+use Rattle.ladder.proofs.Multiples.{sub-mul}
+use Rattle.ladder.proofs.Ordinals.{infinity-lt-sign, finite-low, finite-high, ordinal-low, ordinal-high, pattern-finite, ordinal-pattern, signed-value}
 use Rattle.ladder.proofs.Sum.{rounded-up, rounded-down, sum-range}
 use Rattle.ladder.proofs.Ieee.{frac, round-bits}
 
@@ -42,7 +43,7 @@ module _ (c L : ℕ) (C : 0 < c) (P : 0 < L) where
   lt-down a b A B p q l = lt-of-mul-lt-mul-right L (omega (arith, mul-lt-mul-of-pos-right l C))
 
   less : (a b A B : ℕ) → a * L ≡ A * c → b * L ≡ B * c → (b - a) * L ≡ (B - A) * c
-  less a b A B p q = mul-comm (b - a) L ∙ mul-sub L b a ∙ omega arith ∙ sym (mul-sub c B A) ∙ mul-comm c (B - A)
+  less a b A B p q = omega (arith, sub-mul b a L, sub-mul B A c)
 
   sum-same : (F : Format) (s t : Bool) (a b A B : ℕ) → a * L ≡ A * c → b * L ≡ B * c → I.sum F s a t b c ≡ I.sum F s A t B L
   unfolding I.sum
@@ -189,26 +190,12 @@ module _ (F : Format) where
   read-pattern p h = elim (le-or-lt s p) [
     | inl l ↦
         let q = finite-high f e p h l in
-        let o = ordinal-high f e p l in
-        record {
-          b = true;
-          m = p - s;
-          is = omega (arith, sign-is F);
-          low = omega (arith, infinity-is F);
-          above-is = above-none f e (ordinal f e p) (omega arith);
-          below-is = ap (magnitude f) (omega (arith, infinity-lt-sign f e));
-        }
+        let v = signed-value f e true (ordinal f e p) (p - s) (omega (arith, ordinal-high f e p l, infinity-lt-sign f e)) in
+        record { b = true; m = p - s; is = omega (arith, sign-is F); low = omega (arith, infinity-is F); above-is = v .0; below-is = v .1 }
     | inr l ↦
         let q = finite-low f e p h l in
-        let o = ordinal-low f e p l in
-        record {
-          b = false;
-          m = p;
-          is = omega arith;
-          low = omega (arith, infinity-is F);
-          above-is = ap (magnitude f) (omega arith);
-          below-is = below-none f e (ordinal f e p) (omega arith);
-        }
+        let v = signed-value f e false (ordinal f e p) p (omega (arith, ordinal-low f e p l)) in
+        record { b = false; m = p; is = omega arith; low = omega (arith, infinity-is F); above-is = v .0; below-is = v .1 }
   ]
 
   pub add-sum : (x a : ℕ) → isFinite f e x ≡ true → isFinite f e a ≡ true

@@ -1,21 +1,20 @@
 -- The sum of two ordinals is commutative, monotone in each operand and mirrored; rounding p - n units gives back a value that has an ordinal. Assumes nothing.
-use mathlib.Core.Path.{_≡_, sym, ap, ap₂, _∙_}
+use mathlib.Core.Path.{_≡_, refl, sym, ap, ap₂, _∙_}
 use mathlib.Core.Logic.{inl, inr}
 use Prim.Native.Nat.{ℕ, _+_, _-_, _*_, min, _≤_}
 use native.Mathlib.Nat.{add-comm}
 use native.Mathlib.Omega.{arith}
-use lib.Pow.{pow-pos}
 use Rattle.ladder.specs.Magnitude.{magnitude}
 use Rattle.ladder.specs.Rounding.{round}
-use Rattle.ladder.specs.Ordinal.{sign, infinity, above, below, mirrored}
+use Rattle.ladder.specs.Ordinal.{sign, infinity, above, below, mirrored, Finite}
 use Rattle.ladder.specs.Sum.{rounded, gains, losses, sum}
 use Rattle.ladder.proofs.Cases.{le-or-lt}
-use Rattle.ladder.proofs.Magnitude.{magnitude-le, magnitude-low}
+use Rattle.ladder.proofs.Magnitude.{magnitude-le, magnitude-zero}
 use Rattle.ladder.proofs.Rounding.{round-mono, round-magnitude}
-use Rattle.ladder.proofs.Ordinals.{infinity-lt-sign, above-none, below-none}
+use Rattle.ladder.proofs.Ordinals.{infinity-lt-sign, above-none, below-none, mirror-finite}
 
-pub round-zero : (f n : ℕ) → 1 ≤ f → n ≡ 0 → round f n ≡ 0
-round-zero f n some z = ap (round f) (z ∙ sym (magnitude-low f 0 (pow-pos f))) ∙ round-magnitude f some 0
+round-zero : (f n : ℕ) → 1 ≤ f → n ≡ 0 → round f n ≡ 0
+round-zero f n some z = ap (round f) (z ∙ sym (magnitude-zero f 0 refl)) ∙ round-magnitude f some 0
 
 pub sum-comm : (f e x a : ℕ) → sum f e x a ≡ sum f e a x
 unfolding sum
@@ -52,6 +51,9 @@ module _ (f e : ℕ) (some : 1 ≤ f) where
     | inl h ↦ omega (arith, rounded-down p n h, rounded-up n p h)
     | inr h ↦ omega (arith, rounded-up p n (omega arith), rounded-down n p (omega arith))
   ]
+
+  pub mirror-rounded : (p n : ℕ) → Finite f e (rounded f e p n) → Finite f e (rounded f e n p)
+  mirror-rounded p n h = rw (rounded-mirror p n) (mirror-finite f e (rounded f e p n) h)
 
   pub above-mirror : (r : ℕ) → above f e (mirrored f e r) ≡ below f e r
   above-mirror r = ap (magnitude f) (omega arith)

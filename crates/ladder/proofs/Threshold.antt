@@ -1,6 +1,6 @@
 -- The least operand without a search. By the signed central law x reaches b with a exactly when twice the value of x is at least twice the midpoint of b and its lower neighbour, less twice a, and more
 -- than that where b is odd. So the operands that reach b are those from one float on: half that difference, rounded up. Assumes nothing.
-use mathlib.Core.Path.{_≡_, refl, ap, _∙_}
+use mathlib.Core.Path.{_≡_, ap, _∙_}
 use mathlib.Core.Logic.{_↔_, inl, inr}
 use Prim.Native.Nat.{ℕ, _+_, _-_, _*_, _/_, _%_, _^_, _≤_, _<_}
 use native.Mathlib.Omega.{arith}
@@ -10,12 +10,22 @@ use Rattle.ladder.specs.Rounding.{truncated}
 use Rattle.ladder.specs.Ordinal.{sign, infinity, above, below, Finite}
 use Rattle.ladder.specs.Sum.{sum}
 use Rattle.ladder.specs.Search.{crossingUp, crossingDown, Threshold}
-use Rattle.ladder.proofs.Cases.{le-or-lt}
-use Rattle.ladder.proofs.Magnitude.{magnitude-low, magnitude-is, magnitude-shift, magnitude-le, magnitude-lt, magnitude-zero}
+use Rattle.ladder.proofs.Cases.{le-or-lt, trichotomy}
+use Rattle.ladder.proofs.Magnitude.{magnitude-small, magnitude-shift, magnitude-le, magnitude-lt, magnitude-zero}
 use Rattle.ladder.proofs.Rounding.{even-pow}
 use Rattle.ladder.proofs.Ordinals.{infinity-lt-sign, sign-is, above-none, below-none}
 use Rattle.ladder.proofs.Truncation.{truncated-galois}
 use Rattle.ladder.proofs.Signed.{le-sum}
+
+-- ---- twice a value with p more, where p is none or one
+twice-le : (f p u v : ℕ) → p < 2 → (2 * magnitude f u + p ≤ 2 * magnitude f v) ↔ (u + p ≤ v)
+twice-le f p u v P = elim (trichotomy u v) [
+  | inl l ↦ let g = magnitude-lt f u v l in (λ r. omega arith, λ r. omega arith)
+  | inr c ↦ elim c [
+    | inl q ↦ let g = ap (magnitude f) q in (λ r. omega arith, λ r. omega arith)
+    | inr l ↦ let g = magnitude-lt f v u l in (λ r. absurd (omega arith), λ r. absurd (omega arith))
+  ]
+]
 
 -- ---- half a number of units, rounded toward zero
 half-galois : (f n m : ℕ) → (2 * magnitude f m ≤ n) ↔ (m ≤ truncated f (n / 2))
@@ -27,26 +37,6 @@ module _ (f n h : ℕ) (is : h ≡ truncated f (n / 2)) where
 
   pub half-under : 2 * magnitude f h ≤ n
   half-under = half-le h .1 (omega arith)
-
-  -- half of n is a float
-  module _ (exact : 2 * magnitude f h ≡ n) where
-    exact-under : (p m : ℕ) → p < 2 → (2 * magnitude f m + p ≤ n) ↔ (m + p ≤ h)
-    exact-under p m P = elim (le-or-lt m h) [
-      | inl l ↦ elim (le-or-lt h m) [
-        | inl g ↦ let q : m ≡ h = omega arith in (λ r. omega (arith, ap (magnitude f) q), λ r. omega (arith, ap (magnitude f) q))
-        | inr g ↦ (λ r. omega arith, λ r. omega (arith, magnitude-lt f m h g))
-      ]
-      | inr l ↦ (λ r. absurd (omega (arith, magnitude-lt f h m l)), λ r. absurd (omega arith))
-    ]
-
-    exact-over : (p m : ℕ) → p < 2 → (n + p ≤ 2 * magnitude f m) ↔ (h + p ≤ m)
-    exact-over p m P = elim (le-or-lt h m) [
-      | inl l ↦ elim (le-or-lt m h) [
-        | inl g ↦ let q : m ≡ h = omega arith in (λ r. omega (arith, ap (magnitude f) q), λ r. omega (arith, ap (magnitude f) q))
-        | inr g ↦ (λ r. omega arith, λ r. omega (arith, magnitude-lt f h m g))
-      ]
-      | inr l ↦ (λ r. absurd (omega (arith, magnitude-lt f m h l)), λ r. absurd (omega arith))
-    ]
 
   -- half of n lies between two floats
   module _ (inexact : 2 * magnitude f h < n) where
@@ -63,9 +53,7 @@ module _ (f n h : ℕ) (is : h ≡ truncated f (n / 2)) where
 magnitude-twice : (f m : ℕ) → 2 * magnitude f m ≤ magnitude f (m + 2 ^ f)
 magnitude-twice f m = elim (le-or-lt (2 ^ f) m) [
   | inl l ↦ let e : magnitude f (m + 2 ^ f) ≡ magnitude f m * 2 ^ 1 = ap (magnitude f) (omega arith) ∙ magnitude-shift f 1 m l in omega arith
-  | inr l ↦
-      let e : magnitude f (m + 2 ^ f) ≡ (m + 2 ^ f) * 2 ^ 0 = ap (magnitude f) (omega arith) ∙ magnitude-is f 0 (m + 2 ^ f) (inl refl) (omega arith) in
-      omega (arith, magnitude-low f m l)
+  | inr l ↦ omega (arith, magnitude-small f m (omega arith), magnitude-small f (m + 2 ^ f) (omega arith))
 ]
 
 -- ---- the operands that reach b with a
@@ -115,7 +103,7 @@ module _ (f e a b : ℕ) (some : 1 ≤ f) (B : Finite f e b) where
             ],
             λ r. omega (arith, nothing (s - x) (omega arith), nothing h (omega arith)),
           ))
-          (λ x l. let g = exact-over f n h is exact p (x - s) (omega arith) in (λ r. omega (arith, g .0 (omega arith)), λ r. omega (arith, g .1 (omega arith))))
+          (λ x l. let g = twice-le f p h (x - s) (omega arith) in (λ r. omega (arith, g .0 (omega arith)), λ r. omega (arith, g .1 (omega arith))))
 
       pub threshold-up-inexact : 2 * magnitude f h < n → Threshold f e a b (s + h + 1)
       threshold-up-inexact inexact =
@@ -128,7 +116,7 @@ module _ (f e a b : ℕ) (some : 1 ≤ f) (B : Finite f e b) where
       pub threshold-down : 2 * magnitude f h ≡ n → Threshold f e a b (s + p - h)
       threshold-down exact =
           by-side (s + p - h)
-          (λ x l. let g = exact-under f n h is exact p (s - x) (omega arith) in (λ r. omega (arith, g .0 (omega arith)), λ r. omega (arith, g .1 (omega arith))))
+          (λ x l. let g = twice-le f p (s - x) h (omega arith) in (λ r. omega (arith, g .0 (omega arith)), λ r. omega (arith, g .1 (omega arith))))
           (λ x l. (
             λ r. elim (le-or-lt (x - s + h) 0) [
               | inl g ↦ omega (arith, nothing (x - s) (omega arith), nothing h (omega arith))

@@ -1,5 +1,5 @@
 -- Rounding toward zero: the other half of a Galois connection with the exact value. Assumes nothing.
-use mathlib.Core.Path.{_≡_, refl, ap, _∙_}
+use mathlib.Core.Path.{_≡_, ap, _∙_}
 use mathlib.Core.Logic.{_↔_, inl, inr}
 use Prim.Native.Nat.{ℕ, suc, _+_, _*_, _/_, _^_, _≤_, _<_}
 use native.Mathlib.Nat.{le-refl, le-antisymm, le-of-suc-le-suc, mod-lt, div-add-mod', mul-le-mul-right}
@@ -8,7 +8,7 @@ use lib.Pow.{pow-pos}
 use Rattle.ladder.specs.Magnitude.{magnitude}
 use Rattle.ladder.specs.Rounding.{excess, truncated}
 use Rattle.ladder.proofs.Cases.{le-or-lt}
-use Rattle.ladder.proofs.Magnitude.{magnitude-le, magnitude-lt, lt-of-magnitude, counted-suc, magnitude-is, magnitude-shift}
+use Rattle.ladder.proofs.Magnitude.{magnitude-le, magnitude-lt, lt-of-magnitude, counted-suc, magnitude-is, magnitude-small, magnitude-shift}
 use Rattle.ladder.proofs.Rounding.{counted, few}
 
 -- its value is n without the dropped digits
@@ -41,7 +41,7 @@ truncated-magnitude f m = le-antisymm (le-of-le (truncated-is f (magnitude f m) 
 pub truncated-scale : (f t n r : ℕ) → 2 ^ f ≤ n → r < 2 ^ t → truncated f (n * 2 ^ t + r) ≡ t * 2 ^ f + truncated f n
 truncated-scale f t n r h l =
     let m = truncated f n in
-    let b : 2 ^ f ≤ m = truncated-galois f n (2 ^ f) .0 (omega (arith, magnitude-is f 0 (2 ^ f) (inl refl) (omega arith), ap (magnitude f) (zero-add (2 ^ f)))) in
+    let b : 2 ^ f ≤ m = truncated-galois f n (2 ^ f) .0 (omega (arith, magnitude-small f (2 ^ f) (omega arith))) in
     let w = truncated-is f n in
     let low : t * 2 ^ f + m ≤ truncated f (n * 2 ^ t + r) = truncated-galois f (n * 2 ^ t + r) (t * 2 ^ f + m) .0 (omega (arith, magnitude-shift f t m b, mul-le-mul-right (2 ^ t) (w .0))) in
     elim (le-or-lt (truncated f (n * 2 ^ t + r)) (t * 2 ^ f + m)) [
@@ -50,6 +50,3 @@ truncated-scale f t n r h l =
           let big = truncated-galois f (n * 2 ^ t + r) (t * 2 ^ f + suc m) .1 (omega arith) in
           absurd (omega (arith, magnitude-shift f t (suc m) (omega arith), mul-le-mul-right (2 ^ t) (w .1)))
     ]
-  where
-    zero-add : (h : ℕ) → 0 * h + h ≡ h
-    zero-add h = omega arith

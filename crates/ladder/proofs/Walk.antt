@@ -11,29 +11,10 @@ use Rattle.ladder.specs.Search.{Never, Least, Greatest, Attains, Stays, 
 use Rattle.ladder.proofs.Cases.{le-or-lt}
 use Rattle.ladder.proofs.Sum.{sum-comm}
 use Rattle.ladder.proofs.Frontier.{frontier-start, frontier-solved, raise-next, raise-end, lower-next, lower-end}
+use Rattle.ladder.proofs.Neighbours.{skips-before, skips-after}
 use Rattle.ladder.proofs.Skips.{once-up, once-down}
 
 module _ (f e : ℕ) (some : 1 ≤ f) (X A B : Interval) where
-  -- the number before the least that reaches B
-  before-short : (x a : ℕ) → X .low < x → Least (Attains f e a (B .low) X) x → sum f e a (x - 1) < B .low
-  before-short x a l m = elim (le-or-lt (B .low) (sum f e a (x - 1))) [
-    | inl g ↦
-        let i = m .holds .inside in
-        let t = m .least (x - 1) (record { inside = record { low = omega arith; high = omega arith }; enough = subst (λ (s : ℕ). B .low ≤ s) (sum-comm f e a (x - 1)) g }) in
-        absurd (omega arith)
-    | inr g ↦ g
-  ]
-
-  -- the number after the greatest that stays within B
-  after-past : (x a : ℕ) → a < A .high → Greatest (Stays f e x (B .high) A) a → B .high < sum f e x (a + 1)
-  after-past x a l m = elim (le-or-lt (sum f e x (a + 1)) (B .high)) [
-    | inl g ↦
-        let i = m .holds .inside in
-        let t = m .most (a + 1) (record { inside = record { low = omega arith; high = omega arith }; no-more = subst (λ (s : ℕ). s ≤ B .high) (sum-comm f e x (a + 1)) g }) in
-        absurd (omega arith)
-    | inr g ↦ g
-  ]
-
   module _ (sx : X .low ≤ X .high) (sa : A .low ≤ A .high) where
     start : Frontier f e X A B (X .low) (A .high)
     start = frontier-start f e some X A B sx sa
@@ -77,13 +58,13 @@ module _ (f e : ℕ) (some : 1 ≤ f) (X A B : Interval) where
         let o = r .0 in
         let o' = t .0 in
         let at : x - 1 + 1 ≡ x = omega arith in
-        let first : Skips f e B (A .high) (x - 1) = record { short = before-short x (A .high) (r .0) l; past = subst (λ (z : ℕ). B .high < sum f e (A .high) z) (sym at) (subst (λ (z : ℕ). B .high < z) (sum-comm f e x (A .high)) g) } in
+        let first = skips-before f e (A .high) X B x l (r .0) g in
         frontier-solved f e some X A B x a (t .1)
         (record {
           low = elim (le-or-lt (B .low) (sum f e x a)) [
             | inl z ↦ z
             | inr z ↦
-                let second : Skips f e B (x - 1 + 1) a = subst (λ (y : ℕ). Skips f e B y a) (sym at) (record { short = z; past = after-past x a (t .0) m }) in
+                let second : Skips f e B (x - 1 + 1) a = subst (λ (y : ℕ). Skips f e B y a) (sym at) (skips-after f e x A B a m (t .0) z) in
                 absurd (once-up f e some X A B nx na nb fine (x - 1) (A .high) a (omega arith) (omega arith) (j .low) (t .0) (le-refl (A .high)) first second)
           ];
           high = subst (λ (z : ℕ). z ≤ B .high) (sum-comm f e a x) (m .holds .no-more);
@@ -98,15 +79,14 @@ module _ (f e : ℕ) (some : 1 ≤ f) (X A B : Interval) where
         let j = m .holds .inside in
         let o = r .0 in
         let o' = t .0 in
-        let at : x - 1 + 1 ≡ x = omega arith in
-        let first : Skips f e B (X .low) a = record { short = g; past = after-past (X .low) a (t .0) m } in
+        let first = skips-after f e (X .low) A B a m (t .0) g in
         frontier-solved f e some X A B x a (r .1)
         (record {
           low = l .holds .enough;
           high = elim (le-or-lt (sum f e x a) (B .high)) [
             | inl z ↦ z
             | inr z ↦
-                let second : Skips f e B a (x - 1) = record { short = before-short x a (r .0) l; past = subst (λ (y : ℕ). B .high < sum f e a y) (sym at) (subst (λ (y : ℕ). B .high < y) (sum-comm f e x a) z) } in
+                let second = skips-before f e a X B x l (r .0) z in
                 absurd (once-down f e some X A B nx na nb fine (X .low) a (x - 1) (le-refl (X .low)) (omega arith) (omega arith) (j .low) (omega arith) first second)
           ];
         })
