@@ -197,7 +197,7 @@ fn read_closing(limit: u64, reply: Reply, low: u64, high: u64) {
     conclude(show_run(closing(limit)), reply, cells);
 }
 
-// A sheet of one cell, the other zero, which gets its one pattern.
+// A sheet of one cell, which is zero with its sign set and gets zero's one pattern.
 fn read_no_sums() {
     put_text(b"sheet, no sums");
     let zero = point(0);
