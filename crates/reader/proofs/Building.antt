@@ -112,7 +112,7 @@ module _ (w m : ℕ) (cs : List Interval) (ts : List Record) (g : Passing w m cs
         sums-good = rw used-sums (first-none (sumFault (length cs)) 0 ts (g .sums));
       })
 
-  pub built-tidied : tidied (built w m cs ts) ≡ built w m cs ts
+  built-tidied : tidied (built w m cs ts) ≡ built w m cs ts
   unfolding tidied
   built-tidied = rw (used-cells, used-sums, cells-again w cs (g .cells))
 

@@ -28,7 +28,7 @@ sums-more n [] f = tt
 sums-more n (t ∷ ts) f = (sum-more n t (f .0), sums-more n ts (f .1))
 
 -- ---- the sheet read so far is built of the records, and the cursor keeps its width and counts
-pub record ReadSoFar (c : Cursor) (s : Sheet) : Type 0 where
+record ReadSoFar (c : Cursor) (s : Sheet) : Type 0 where
   pub limit : ℕ
   pub cells : List Interval
   pub sums : List Record
