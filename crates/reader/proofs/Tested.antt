@@ -15,12 +15,13 @@ use Rattle.sheet.proofs.Answers.{opened}
 use Rattle.sheet.proofs.Sums.{sum-more}
 use Rattle.reader.specs.Steps.{nextOf, past, afterOf, cursorAfter}
 use Rattle.reader.specs.Readings.{readOf, grown, sheetAfter, Taken, EndsWith, ReadBy}
+use Rattle.reader.specs.Texts.{built}
 use Rattle.reader.specs.declared.cursor.Cursor.{Cursor}
 use Rattle.reader.specs.declared.cursor.Step.{Step}
 use Rattle.reader.specs.declared.cursor.Step.the-variants.{Head, Cell, Sum, End, Refused}
 use Rattle.reader.proofs.Moving.{Onto, Given, a-head, a-cell, a-sum, the-end, given}
 use Rattle.reader.proofs.Following.{read-records}
-use Rattle.reader.proofs.Building.{Faultless, faultless-append, built, Passing, length-more, built-passes, add-cell, add-sum}
+use Rattle.reader.proofs.Building.{Faultless, faultless-append, Passing, length-more, built-passes, add-cell, add-sum}
 
 -- ---- sums without a fault have none where there is one cell more
 sums-more : (n : ℕ) (ts : List Record) → Faultless (sumFault n) ts → Faultless (sumFault (n + 1)) ts
