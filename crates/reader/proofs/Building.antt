@@ -1,6 +1,6 @@
--- Sheets by the lists of their cells and sums: such a sheet passes its own test and is in its written form, and adding puts one more at the end. Rests on the laws of `sheet`.
+-- Sheets by the lists of their cells and sums: such a sheet passes its own test and is in its written form, and adding puts one more at the end. Rests on specs/Texts and the laws of `sheet`.
 use mathlib.Core.Path.{_≡_, refl, sym, ap, _∙_}
-use mathlib.Core.List.{List, [], _∷_, _++_, map, append-assoc}
+use mathlib.Core.List.{List, [], _∷_, _++_, map, append-assoc, map-append}
 use Prim.Native.Nat.{ℕ, suc, _+_, _-_, _≤_, _<_}
 use native.Mathlib.Omega.{arith}
 use lib.ListN.{length, set, replicate, length-append, length-map}
@@ -90,10 +90,6 @@ filled-more places n v a l e h =
 pub length-more : {A : Type 0} (l : List A) (a : A) → length (l ++ (a ∷ [])) ≡ length l + 1
 length-more l a = length-append l (a ∷ [])
 
-map-more : {A B : Type 0} (f : A → B) (l : List A) (a : A) → map f (l ++ (a ∷ [])) ≡ map f l ++ (f a ∷ [])
-map-more f [] a = refl
-map-more f (x ∷ xs) a = ap (λ t. f x ∷ t) (map-more f xs a)
-
 module _ (w m : ℕ) (cs : List Interval) (ts : List Record) (g : Passing w m cs ts) where
   used-cells : usedCells (built w m cs ts) ≡ map (canonicalCell w) cs
   used-cells = take-at (map (canonicalCell w) cs) (replicate (64 - length cs) noCell) (length cs) (length-map cs (canonicalCell w))
@@ -120,7 +116,7 @@ module _ (w m : ℕ) (cs : List Interval) (ts : List Record) (g : Passing w m cs
   unfolding addCellOf
   add-cell I z h =
       sym (added (built w m cs ts) (withCell (tidied (built w m cs ts)) (canonicalCell w I)) (testOf (built w m cs ts)) (cellFault w I) _ built-passes z (lt-ltb (length cs) 64 h))
-      ∙ rw (built-tidied, length-more cs I, map-more (canonicalCell w) cs I, filled-more 64 (length cs) noCell (canonicalCell w I) (map (canonicalCell w) cs) (length-map cs (canonicalCell w)) h)
+      ∙ rw (built-tidied, length-more cs I, map-append (canonicalCell w) cs (I ∷ []), filled-more 64 (length cs) noCell (canonicalCell w I) (map (canonicalCell w) cs) (length-map cs (canonicalCell w)) h)
 
   pub add-sum : (t : Record) → sumFault (length cs) t ≡ 0 → length ts < 128 → addSumOf (built w m cs ts) t ≡ record { sheet = built w m cs (ts ++ (t ∷ [])); answer = Done }
   unfolding addSumOf
