@@ -20,7 +20,7 @@ use Rattle.reader.specs.Readings.{readOf}
 use Rattle.reader.proofs.RoundTrip.{lists-back}
 use Rattle.listing.specs.Listings.{cellLine, cellLines, linesOf, listingOf, runFor, runOf}
 use Rattle.examples.specs.Quoted.{bytes}
-use Rattle.examples.specs.Starred.{Listings, interval, over, chased, text000, chaseText}
+use Rattle.examples.specs.Starred.{Listings, interval, over, twoSumsCells, text000, twoSumsText}
 use Rattle.examples.proofs.Sheets.{sheets}
 
 -- ---- the text of cells and sums is run as their sheet
@@ -37,15 +37,15 @@ unfolding testLists firstFault headFault cellFault sumFault canonicalOf canonica
 passing000 = refl
 
 -- ---- the two sums
-chase-passing : (testOfLists 64 5 chased (over 0 1 2 ∷ over 2 3 0 ∷ []) ≡ Done) × (testOfLists 64 6 chased (over 0 1 2 ∷ over 2 3 0 ∷ []) ≡ Done)
+two-sums-passing : (testOfLists 64 5 twoSumsCells (over 0 1 2 ∷ over 2 3 0 ∷ []) ≡ Done) × (testOfLists 64 6 twoSumsCells (over 0 1 2 ∷ over 2 3 0 ∷ []) ≡ Done)
 unfolding testLists firstFault headFault cellFault sumFault canonicalOf canonicalIn endsFinite isOrdered ordinal sign infinity
-chase-passing = (refl, refl)
+two-sums-passing = (refl, refl)
 
 -- ---- the texts are theirs
 record Texts : Type 0 where
   whole : textFor 64 10 cells000 (over 0 1 2 ∷ []) ≡ bytes text000
-  stops : textFor 64 5 chased (over 0 1 2 ∷ over 2 3 0 ∷ []) ≡ bytes ("sheet\t64\t5\n" ++ chaseText)
-  breaks : textFor 64 6 chased (over 0 1 2 ∷ over 2 3 0 ∷ []) ≡ bytes ("sheet\t64\t6\n" ++ chaseText)
+  stops : textFor 64 5 twoSumsCells (over 0 1 2 ∷ over 2 3 0 ∷ []) ≡ bytes ("sheet\t64\t5\n" ++ twoSumsText)
+  breaks : textFor 64 6 twoSumsCells (over 0 1 2 ∷ over 2 3 0 ∷ []) ≡ bytes ("sheet\t64\t6\n" ++ twoSumsText)
 
 texts : Texts
 unfolding headText cellText sumText textLines decimalOf digitCount digitsOf digitByte hexOf digitsFor bytes
@@ -56,6 +56,6 @@ pub listings : Listings
 unfolding linesOf cellLines cellLine decimalOf digitCount digitsOf digitByte hexOf digitsFor bytes ordinal pattern sign
 listings = record {
   whole = ap listingOf (text-run 10 cells000 (over 0 1 2 ∷ []) (bytes text000) passing000 (texts .whole) ∙ sheets .settles);
-  stops = ap listingOf (text-run 5 chased (over 0 1 2 ∷ over 2 3 0 ∷ []) (bytes ("sheet\t64\t5\n" ++ chaseText)) (chase-passing .0) (texts .stops) ∙ sheets .stops);
-  breaks = ap listingOf (text-run 6 chased (over 0 1 2 ∷ over 2 3 0 ∷ []) (bytes ("sheet\t64\t6\n" ++ chaseText)) (chase-passing .1) (texts .breaks) ∙ sheets .breaks);
+  stops = ap listingOf (text-run 5 twoSumsCells (over 0 1 2 ∷ over 2 3 0 ∷ []) (bytes ("sheet\t64\t5\n" ++ twoSumsText)) (two-sums-passing .0) (texts .stops) ∙ sheets .stops);
+  breaks = ap listingOf (text-run 6 twoSumsCells (over 0 1 2 ∷ over 2 3 0 ∷ []) (bytes ("sheet\t64\t6\n" ++ twoSumsText)) (two-sums-passing .1) (texts .breaks) ∙ sheets .breaks);
 }
