@@ -3,27 +3,28 @@ use mathlib.Core.Path.{_≡_, refl, sym, ap, _∙_}
 use mathlib.Core.List.{List, [], _∷_}
 use Prim.Native.Nat.{ℕ}
 use Prim.Native.String.{_++_}
-use lib.Dec.{lit≤}
 use Rattle.ladder.specs.Ordinal.{sign, infinity, ordinal, pattern}
 use Rattle.arith.specs.declared.interval.Interval.{Interval}
 use Rattle.arith.specs.Intervals.{endsFinite, isOrdered, canonicalIn, canonicalOf}
 use Rattle.sheet.specs.declared.kept.Record.{Record}
 use Rattle.sheet.specs.declared.kept.Kept.{Kept}
+use Rattle.sheet.specs.declared.kept.Answer.the-variants.{Done}
 use Rattle.sheet.specs.Faults.{headFault, cellFault, sumFault}
+use Rattle.sheet.specs.Sheets.{firstFault, testLists}
+use Rattle.sheet.specs.Lists.{testOfLists}
 use Rattle.sheet.specs.Narrowings.{narrowSheetOf}
 use Rattle.reader.specs.Numbers.{digitsFor}
 use Rattle.reader.specs.Digits.{digitByte, digitsOf, digitCount, decimalOf, hexOf}
-use Rattle.reader.specs.Texts.{headText, cellText, sumText, textLines, textFor}
+use Rattle.reader.specs.Texts.{headText, cellText, sumText, textLines, textFor, built}
 use Rattle.reader.specs.Readings.{readOf}
-use Rattle.reader.proofs.Building.{built, Passing}
 use Rattle.reader.proofs.RoundTrip.{lists-back}
 use Rattle.listing.specs.Listings.{cellLine, cellLines, linesOf, listingOf, runFor, runOf}
 use Rattle.examples.specs.Quoted.{bytes}
-use Rattle.examples.specs.Starred.{Listings, interval, over, chased, text000, chaseText}
+use Rattle.examples.specs.Starred.{Listings, interval, over, twoSumsCells, text000, twoSumsText}
 use Rattle.examples.proofs.Sheets.{sheets}
 
 -- ---- the text of cells and sums is run as their sheet
-text-run : (m : ℕ) (cells : List Interval) (sums : List Record) (text : List ℕ) → Passing 64 m cells sums → textFor 64 m cells sums ≡ text → runOf text ≡ narrowSheetOf (built 64 m cells sums)
+text-run : (m : ℕ) (cells : List Interval) (sums : List Record) (text : List ℕ) → testOfLists 64 m cells sums ≡ Done → textFor 64 m cells sums ≡ text → runOf text ≡ narrowSheetOf (built 64 m cells sums)
 unfolding runOf
 text-run m cells sums text g t = ap (λ (k : Kept). runFor (k .sheet) (k .answer)) (ap readOf (sym t) ∙ lists-back 64 m cells sums g)
 
@@ -31,20 +32,20 @@ text-run m cells sums text g t = ap (λ (k : Kept). runFor (k .sheet) (k .answer
 abbrev cells000 : List Interval
 cells000 = interval 0xC630000000000000 0xC330000000000000 ∷ interval 0x3FF0000000000000 0x4630000000000000 ∷ interval 0x3FE0000000000000 0x3FF8000000000000 ∷ []
 
-passing000 : Passing 64 10 cells000 (over 0 1 2 ∷ [])
-unfolding headFault cellFault sumFault canonicalOf canonicalIn endsFinite isOrdered ordinal sign infinity
-passing000 = record { head = refl; few-cells = lit≤ tt; few-sums = lit≤ tt; cells = (refl, (refl, (refl, tt))); sums = (refl, tt) }
+passing000 : testOfLists 64 10 cells000 (over 0 1 2 ∷ []) ≡ Done
+unfolding testLists firstFault headFault cellFault sumFault canonicalOf canonicalIn endsFinite isOrdered ordinal sign infinity
+passing000 = refl
 
 -- ---- the two sums
-chase-passing : (m : ℕ) → headFault 64 m ≡ 0 → Passing 64 m chased (over 0 1 2 ∷ over 2 3 0 ∷ [])
-unfolding cellFault sumFault canonicalOf canonicalIn endsFinite isOrdered ordinal sign infinity
-chase-passing m z = record { head = z; few-cells = lit≤ tt; few-sums = lit≤ tt; cells = (refl, (refl, (refl, (refl, tt)))); sums = (refl, (refl, tt)) }
+two-sums-passing : (testOfLists 64 5 twoSumsCells (over 0 1 2 ∷ over 2 3 0 ∷ []) ≡ Done) × (testOfLists 64 6 twoSumsCells (over 0 1 2 ∷ over 2 3 0 ∷ []) ≡ Done)
+unfolding testLists firstFault headFault cellFault sumFault canonicalOf canonicalIn endsFinite isOrdered ordinal sign infinity
+two-sums-passing = (refl, refl)
 
 -- ---- the texts are theirs
 record Texts : Type 0 where
   whole : textFor 64 10 cells000 (over 0 1 2 ∷ []) ≡ bytes text000
-  stops : textFor 64 5 chased (over 0 1 2 ∷ over 2 3 0 ∷ []) ≡ bytes ("sheet\t64\t5\n" ++ chaseText)
-  breaks : textFor 64 6 chased (over 0 1 2 ∷ over 2 3 0 ∷ []) ≡ bytes ("sheet\t64\t6\n" ++ chaseText)
+  stops : textFor 64 5 twoSumsCells (over 0 1 2 ∷ over 2 3 0 ∷ []) ≡ bytes ("sheet\t64\t5\n" ++ twoSumsText)
+  breaks : textFor 64 6 twoSumsCells (over 0 1 2 ∷ over 2 3 0 ∷ []) ≡ bytes ("sheet\t64\t6\n" ++ twoSumsText)
 
 texts : Texts
 unfolding headText cellText sumText textLines decimalOf digitCount digitsOf digitByte hexOf digitsFor bytes
@@ -52,9 +53,9 @@ texts = record { whole = refl; stops = refl; breaks = refl }
 
 -- ---- the table
 pub listings : Listings
-unfolding headFault linesOf cellLines cellLine decimalOf digitCount digitsOf digitByte hexOf digitsFor bytes ordinal pattern sign
+unfolding linesOf cellLines cellLine decimalOf digitCount digitsOf digitByte hexOf digitsFor bytes ordinal pattern sign
 listings = record {
   whole = ap listingOf (text-run 10 cells000 (over 0 1 2 ∷ []) (bytes text000) passing000 (texts .whole) ∙ sheets .settles);
-  stops = ap listingOf (text-run 5 chased (over 0 1 2 ∷ over 2 3 0 ∷ []) (bytes ("sheet\t64\t5\n" ++ chaseText)) (chase-passing 5 refl) (texts .stops) ∙ sheets .stops);
-  breaks = ap listingOf (text-run 6 chased (over 0 1 2 ∷ over 2 3 0 ∷ []) (bytes ("sheet\t64\t6\n" ++ chaseText)) (chase-passing 6 refl) (texts .breaks) ∙ sheets .breaks);
+  stops = ap listingOf (text-run 5 twoSumsCells (over 0 1 2 ∷ over 2 3 0 ∷ []) (bytes ("sheet\t64\t5\n" ++ twoSumsText)) (two-sums-passing .0) (texts .stops) ∙ sheets .stops);
+  breaks = ap listingOf (text-run 6 twoSumsCells (over 0 1 2 ∷ over 2 3 0 ∷ []) (bytes ("sheet\t64\t6\n" ++ twoSumsText)) (two-sums-passing .1) (texts .breaks) ∙ sheets .breaks);
 }

@@ -21,15 +21,15 @@ use Rattle.sheet.specs.Outcomes.{start, next}
 use Rattle.sheet.specs.Narrowings.{ranOn, narrowSheetOf}
 use Rattle.sheet.proofs.Boxes.{same-not}
 use Rattle.sheet.proofs.Outcomes.{settled-exactly}
-use Rattle.examples.specs.Starred.{Sheets, interval, point, over, sheet000, chase, chased}
+use Rattle.examples.specs.Starred.{Sheets, interval, point, over, sheet000, twoSums, twoSumsCells}
 use Rattle.examples.proofs.Narrowings.{dX, dA, dB, dX', dA', one, document}
 
 -- ---- the two sums that move each other's cells
-chases :
-    (_≡_ {A = Run} (narrowSheetOf (chase 5 chased)) (record { sheet = chase 5 (point 5 ∷ point 1 ∷ point 5 ∷ point 0 ∷ []); outcome = Stopped 5 }))
-    × (_≡_ {A = Run} (narrowSheetOf (chase 6 chased)) (record { sheet = chase 6 chased; outcome = NoTriple 6 0 }))
+two-sums :
+    (_≡_ {A = Run} (narrowSheetOf (twoSums 5 twoSumsCells)) (record { sheet = twoSums 5 (point 5 ∷ point 1 ∷ point 5 ∷ point 0 ∷ []); outcome = Stopped 5 }))
+    × (_≡_ {A = Run} (narrowSheetOf (twoSums 6 twoSumsCells)) (record { sheet = twoSums 6 twoSumsCells; outcome = NoTriple 6 0 }))
 unfolding narrowSheetOf testLists firstFault headFault cellFault sumFault canonicalOf canonicalIn endsFinite isOrdered tidied runFrom passFrom step sameBox narrowing xExtent aExtent bExtent extentFrom anyFrom sum rounded round excess magnitude size sign infinity ordinal pattern
-chases = (refl, refl)
+two-sums = (refl, refl)
 
 -- ---- document 000's sheet
 abbrev sums : List Record
@@ -62,6 +62,6 @@ pub sheets : Sheets
 unfolding narrowSheetOf testLists firstFault headFault cellFault sumFault canonicalOf canonicalIn endsFinite isOrdered tidied ordinal pattern sign infinity
 sheets = record {
   settles = ap (ranOn (sheet000 (interval 0xC630000000000000 0xC330000000000000 ∷ interval 0x3FF0000000000000 0x4630000000000000 ∷ interval 0x3FE0000000000000 0x3FF8000000000000 ∷ []))) run-settles;
-  stops = chases .0;
-  breaks = chases .1;
+  stops = two-sums .0;
+  breaks = two-sums .1;
 }

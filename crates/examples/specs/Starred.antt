@@ -1,4 +1,5 @@
 -- The table of 01's starred examples, each as an equation of the definitions. Assumes nothing.
+-- Document 000 is D. Gallois-Wong, S. Boldo, P. Cuoq, Optimal Inverse Projection of Floating-Point Addition.
 use mathlib.Core.Path.{_≡_}
 use mathlib.Core.List.{List, [], _∷_}
 use Prim.Native.Nat.{ℕ}
@@ -96,12 +97,12 @@ abbrev pub sheet000 : List Interval → Sheet
 sheet000 cells = sheet 10 cells (over 0 1 2 ∷ [])
 
 -- two sums, each of which moves the other's cells
-abbrev pub chase : ℕ → List Interval → Sheet
-chase limit cells = sheet limit cells (over 0 1 2 ∷ over 2 3 0 ∷ [])
+abbrev pub twoSums : ℕ → List Interval → Sheet
+twoSums limit cells = sheet limit cells (over 0 1 2 ∷ over 2 3 0 ∷ [])
 
--- its cells: 0 and 2 from place 0 to place 10, 1 at place 1, 3 at place 0
-abbrev pub chased : List Interval
-chased = interval 0 10 ∷ point 1 ∷ interval 0 10 ∷ point 0 ∷ []
+-- their cells: 0 and 2 from place 0 to place 10, 1 at place 1, 3 at place 0
+abbrev pub twoSumsCells : List Interval
+twoSumsCells = interval 0 10 ∷ point 1 ∷ interval 0 10 ∷ point 0 ∷ []
 
 -- 01's sheets
 pub record Sheets : Type 0 where
@@ -110,9 +111,9 @@ pub record Sheets : Type 0 where
       narrowSheetOf (sheet000 (interval 0xC630000000000000 0xC330000000000000 ∷ interval 0x3FF0000000000000 0x4630000000000000 ∷ interval 0x3FE0000000000000 0x3FF8000000000000 ∷ []))
       ≡ record { sheet = sheet000 (interval 0xC33FFFFFFFFFFFFF 0xC330000000000000 ∷ interval 0x4330000000000001 0x4340000000000000 ∷ one64 ∷ []); outcome = Settled 2 }
   -- one float a pass: five passes meet in the middle
-  pub stops : narrowSheetOf (chase 5 chased) ≡ record { sheet = chase 5 (point 5 ∷ point 1 ∷ point 5 ∷ point 0 ∷ []); outcome = Stopped 5 }
+  pub stops : narrowSheetOf (twoSums 5 twoSumsCells) ≡ record { sheet = twoSums 5 (point 5 ∷ point 1 ∷ point 5 ∷ point 0 ∷ []); outcome = Stopped 5 }
   -- and the sixth finds no triple
-  pub breaks : narrowSheetOf (chase 6 chased) ≡ record { sheet = chase 6 chased; outcome = NoTriple 6 0 }
+  pub breaks : narrowSheetOf (twoSums 6 twoSumsCells) ≡ record { sheet = twoSums 6 twoSumsCells; outcome = NoTriple 6 0 }
 
 -- ---- listings
 -- what the program prints for a text
@@ -124,16 +125,16 @@ abbrev pub text000 : String
 text000 = "sheet\t64\t10\ncell\tC630000000000000\tC330000000000000\ncell\t3FF0000000000000\t4630000000000000\ncell\t3FE0000000000000\t3FF8000000000000\nsum\t0\t1\t2\n"
 
 -- the text of the two sums, below its head
-abbrev pub chaseText : String
-chaseText = "cell\t0000000000000000\t000000000000000A\ncell\t0000000000000001\t0000000000000001\ncell\t0000000000000000\t000000000000000A\ncell\t0000000000000000\t0000000000000000\nsum\t0\t1\t2\nsum\t2\t3\t0\n"
+abbrev pub twoSumsText : String
+twoSumsText = "cell\t0000000000000000\t000000000000000A\ncell\t0000000000000001\t0000000000000001\ncell\t0000000000000000\t000000000000000A\ncell\t0000000000000000\t0000000000000000\nsum\t0\t1\t2\nsum\t2\t3\t0\n"
 
 -- 01's texts and what is printed for them
 pub record Listings : Type 0 where
   -- the whole listing
   pub whole : prints text000 ≡ bytes "settled\t2\ncell\t0\tC33FFFFFFFFFFFFF\tC330000000000000\ncell\t1\t4330000000000001\t4340000000000000\ncell\t2\t3FF0000000000000\t3FF0000000000000\n"
   -- the two sums with limit 5, and with limit 6
-  pub stops : prints ("sheet\t64\t5\n" ++ chaseText) ≡ bytes "stopped\t5\ncell\t0\t0000000000000005\t0000000000000005\ncell\t1\t0000000000000001\t0000000000000001\ncell\t2\t0000000000000005\t0000000000000005\ncell\t3\t0000000000000000\t0000000000000000\n"
-  pub breaks : prints ("sheet\t64\t6\n" ++ chaseText) ≡ bytes "none\t6\t0\n"
+  pub stops : prints ("sheet\t64\t5\n" ++ twoSumsText) ≡ bytes "stopped\t5\ncell\t0\t0000000000000005\t0000000000000005\ncell\t1\t0000000000000001\t0000000000000001\ncell\t2\t0000000000000005\t0000000000000005\ncell\t3\t0000000000000000\t0000000000000000\n"
+  pub breaks : prints ("sheet\t64\t6\n" ++ twoSumsText) ≡ bytes "none\t6\t0\n"
 
 -- ---- the whole table
 pub record Starred : Type 0 where

@@ -129,8 +129,8 @@ fn read_listed(limit: u64, reply: Reply) {
     read(limit, given, 3, 1, reply, expected);
 }
 
-// 01's sheet whose cells 0 and 2 lose a place at each end in every pass, here both from low to high.
-fn closing(low: u64, high: u64) -> Four {
+// 01's sheet of two sums, whose cells 0 and 2 lose a place at each end in every pass, here both from low to high.
+fn two_sums(low: u64, high: u64) -> Four {
     Four {
         c0: interval(low, high),
         c1: point(1),
@@ -140,14 +140,14 @@ fn closing(low: u64, high: u64) -> Four {
 }
 
 // A line for it, with cells 0 and 2 from low to high after the call.
-fn read_closing(limit: u64, reply: Reply, low: u64, high: u64) {
-    put_text(b"lists, closing, limit");
-    read(limit, closing(0, 10), 4, 2, reply, closing(low, high));
+fn read_two_sums(limit: u64, reply: Reply, low: u64, high: u64) {
+    put_text(b"lists, two sums, limit");
+    read(limit, two_sums(0, 10), 4, 2, reply, two_sums(low, high));
 }
 
 pub(crate) fn read_sheets() {
     read_listed(10, settled(2));
     read_listed(1, stopped(1));
-    read_closing(5, stopped(5), 5, 5);
-    read_closing(6, no_triple(6, 0), 0, 10);
+    read_two_sums(5, stopped(5), 5, 5);
+    read_two_sums(6, no_triple(6, 0), 0, 10);
 }

@@ -32,7 +32,7 @@ abbrev pub refusedWord : List ℕ
 refusedWord = 114 ∷ 101 ∷ 102 ∷ 117 ∷ 115 ∷ 101 ∷ 100 ∷ []
 
 -- ---- the lines
--- a word, a number and the byte after it
+-- a word, a tab, a number and the byte after it
 abbrev pub worded : List ℕ → ℕ → ℕ → List ℕ
 worded word n last = word ++ (tab ∷ (decimalOf n ++ (last ∷ [])))
 

@@ -1,5 +1,5 @@
 // The lines of a listing.
-ghost use Prim.Native.Nat.{_+_, _≤_, _<_};
+ghost use Prim.Native.Nat.{_+_, _≤_};
 ghost use lib.ListN.{length, take};
 ghost use Rattle.listing.specs.Stores.{Wrote};
 ghost use Rattle.listing.specs.Listings.{worded, pairLine, cellLine, cellLines, linesOf};

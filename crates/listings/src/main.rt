@@ -31,7 +31,7 @@ fn append(buf: &mut [u8], at: usize, s: &[u8]) -> usize {
     at + i
 }
 
-// The listing of some first lines and others that come n times.
+// The listing of some first lines and others that come n times. The last test always holds: it is only the bound for the slice.
 fn show_many(head: &[u8], lines: &[u8], n: usize) {
     let mut text = [0u8; 8192];
     let mut at = append(&mut text, 0, head);

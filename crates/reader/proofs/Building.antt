@@ -1,6 +1,6 @@
--- Sheets by the lists of their cells and sums: such a sheet passes its own test and is in its written form, and adding puts one more at the end. Rests on the laws of `sheet`.
+-- Sheets by the lists of their cells and sums: such a sheet passes its own test and is in its written form, and adding puts one more at the end. Rests on specs/Texts and the laws of `sheet`.
 use mathlib.Core.Path.{_≡_, refl, sym, ap, _∙_}
-use mathlib.Core.List.{List, [], _∷_, _++_, map, append-assoc}
+use mathlib.Core.List.{List, [], _∷_, _++_, map, append-assoc, map-append}
 use Prim.Native.Nat.{ℕ, suc, _+_, _-_, _≤_, _<_}
 use native.Mathlib.Omega.{arith}
 use lib.ListN.{length, set, replicate, length-append, length-map}
@@ -9,14 +9,15 @@ use borrow.Author.Tests.{lt-ltb}
 use Rattle.arith.specs.declared.interval.Interval.{Interval}
 use Rattle.arith.proofs.Valid.{valid-bounded, written-span}
 use Rattle.sheet.specs.declared.kept.Record.{Record}
-use Rattle.sheet.specs.declared.kept.Sheet.{Sheet}
 use Rattle.sheet.specs.declared.kept.Answer.the-variants.{Done}
 use Rattle.sheet.specs.Cells.{ordinalsOf, patternsOf, canonicalCell}
 use Rattle.sheet.specs.Faults.{headFault, cellFault, sumFault}
 use Rattle.sheet.specs.Sheets.{noCell, noSum, filled, usedCells, usedSums, tidied, withCell, withSum, firstFault, testOf, addCellOf, addSumOf}
-use Rattle.sheet.proofs.Answers.{passes-test, added}
+use Rattle.sheet.specs.Lists.{testOfLists}
+use Rattle.sheet.proofs.Answers.{all-good, passes-test, added}
 use Rattle.sheet.proofs.Firsts.{faultless, none-found}
 use Rattle.sheet.proofs.Cells.{fault-free, canonical-faultless}
+use Rattle.reader.specs.Texts.{built}
 
 -- ---- lists without a fault
 abbrev pub Faultless : {A : Type 0} → (A → ℕ) → List A → Type 0
@@ -24,7 +25,7 @@ Faultless fault [] = Unit {0}
 Faultless fault (v ∷ vs) = (fault v ≡ 0) × Faultless fault vs
 
 module _ {A : Type 0} (fault : A → ℕ) where
-  pub faultless-list : (d : A) (i : ℕ) (l : List A) → firstFault fault i l ≡ Done → Faultless fault l
+  faultless-list : (d : A) (i : ℕ) (l : List A) → firstFault fault i l ≡ Done → Faultless fault l
   faultless-list d i [] e = tt
   faultless-list d i (v ∷ vs) e = (
     faultless fault d i (v ∷ vs) e 0 (omega arith),
@@ -61,25 +62,24 @@ module _ (w : ℕ) where
   cells-again [] f = refl
   cells-again (I ∷ cs) f = rw (canonical-again I (f .0), cells-again cs (f .1))
 
--- ---- the sheet with these cells and sums in use
-abbrev pub built : ℕ → ℕ → List Interval → List Record → Sheet
-built w m cs ts =
-    record {
-      width = w;
-      limit = m;
-      «cell_count» = length cs;
-      «sum_count» = length ts;
-      cells = filled 64 noCell (map (canonicalCell w) cs) (length cs);
-      sums = filled 128 noSum ts (length ts);
-    }
-
--- what its test asks
+-- ---- what the test of such lists asks
 pub record Passing (w m : ℕ) (cs : List Interval) (ts : List Record) : Type 0 where
   pub head : headFault w m ≡ 0
   pub few-cells : length cs ≤ 64
   pub few-sums : length ts ≤ 128
   pub cells : Faultless (cellFault w) cs
   pub sums : Faultless (sumFault (length cs)) ts
+
+pub lists-passing : (w m : ℕ) (cs : List Interval) (ts : List Record) → testOfLists w m cs ts ≡ Done → Passing w m cs ts
+lists-passing w m cs ts e =
+    let p = all-good w m (length cs) (length ts) cs ts e in
+    record {
+      head = p .head;
+      few-cells = p .few-cells;
+      few-sums = p .few-sums;
+      cells = faultless-list (cellFault w) noCell 0 cs (p .cells-good);
+      sums = faultless-list (sumFault (length cs)) noSum 0 ts (p .sums-good);
+    }
 
 -- one more in the place that comes next
 filled-more : {A : Type 0} (places n : ℕ) (v a : A) (l : List A) → length l ≡ n → n < places → set (filled places v l n) n a ≡ filled places v (l ++ (a ∷ [])) (n + 1)
@@ -89,10 +89,6 @@ filled-more places n v a l e h =
 
 pub length-more : {A : Type 0} (l : List A) (a : A) → length (l ++ (a ∷ [])) ≡ length l + 1
 length-more l a = length-append l (a ∷ [])
-
-map-more : {A B : Type 0} (f : A → B) (l : List A) (a : A) → map f (l ++ (a ∷ [])) ≡ map f l ++ (f a ∷ [])
-map-more f [] a = refl
-map-more f (x ∷ xs) a = ap (λ t. f x ∷ t) (map-more f xs a)
 
 module _ (w m : ℕ) (cs : List Interval) (ts : List Record) (g : Passing w m cs ts) where
   used-cells : usedCells (built w m cs ts) ≡ map (canonicalCell w) cs
@@ -112,7 +108,7 @@ module _ (w m : ℕ) (cs : List Interval) (ts : List Record) (g : Passing w m cs
         sums-good = rw used-sums (first-none (sumFault (length cs)) 0 ts (g .sums));
       })
 
-  pub built-tidied : tidied (built w m cs ts) ≡ built w m cs ts
+  built-tidied : tidied (built w m cs ts) ≡ built w m cs ts
   unfolding tidied
   built-tidied = rw (used-cells, used-sums, cells-again w cs (g .cells))
 
@@ -120,7 +116,7 @@ module _ (w m : ℕ) (cs : List Interval) (ts : List Record) (g : Passing w m cs
   unfolding addCellOf
   add-cell I z h =
       sym (added (built w m cs ts) (withCell (tidied (built w m cs ts)) (canonicalCell w I)) (testOf (built w m cs ts)) (cellFault w I) _ built-passes z (lt-ltb (length cs) 64 h))
-      ∙ rw (built-tidied, length-more cs I, map-more (canonicalCell w) cs I, filled-more 64 (length cs) noCell (canonicalCell w I) (map (canonicalCell w) cs) (length-map cs (canonicalCell w)) h)
+      ∙ rw (built-tidied, length-more cs I, map-append (canonicalCell w) cs (I ∷ []), filled-more 64 (length cs) noCell (canonicalCell w I) (map (canonicalCell w) cs) (length-map cs (canonicalCell w)) h)
 
   pub add-sum : (t : Record) → sumFault (length cs) t ≡ 0 → length ts < 128 → addSumOf (built w m cs ts) t ≡ record { sheet = built w m cs (ts ++ (t ∷ [])); answer = Done }
   unfolding addSumOf

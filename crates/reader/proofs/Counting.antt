@@ -49,7 +49,7 @@ unfolding lineAfter
 line-on line h = rw (ne-eqb line 18446744073709551615 (λ e. omega arith))
 
 -- ---- the line at a position
-pub line-most : (text : List ℕ) (at : ℕ) → length text ≤ 8192 → lineNumber text at ≤ 8193
+line-most : (text : List ℕ) (at : ℕ) → length text ≤ 8192 → lineNumber text at ≤ 8193
 unfolding lineNumber
 line-most text at h = omega (arith, count-le feed (take at text), length-take at text)
 

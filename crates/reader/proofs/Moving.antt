@@ -26,6 +26,11 @@ use Rattle.reader.proofs.Counting.{line-past}
 nonzero : (n : ℕ) → eqb n 0 ≡ false → 0 < n
 nonzero n e = let h = eqb-false n 0 e in omega arith
 
+-- what each side of a test has where it is taken, the side taken has
+either : {A : Type 0} (P : A → Type 0) (t : Bool) {a b : A} → (t ≡ true → P a) → (t ≡ false → P b) → P (cond t a b)
+either P true p q = p refl
+either P false p q = q refl
+
 -- ---- where a line may stand
 data Placed (at : ℕ) : Line → Type 0 where
   head : {w m : ℕ} → at ≡ 0 → Placed at (Line.Head w m)
@@ -34,10 +39,6 @@ data Placed (at : ℕ) : Line → Type 0 where
   nowhere : Placed at Line.Malformed
 
 module _ (at : ℕ) where
-  either : (t : Bool) {a b : Line} → (t ≡ true → Placed at a) → (t ≡ false → Placed at b) → Placed at (cond t a b)
-  either true p q = p refl
-  either false p q = q refl
-
   head-placed : at ≡ 0 → (w m : Number) → Placed at (headFrom w m)
   unfolding headFrom
   head-placed z Number.Malformed m = nowhere
@@ -61,11 +62,11 @@ module _ (at : ℕ) where
   unfolding lineOf headIn cellIn sumIn
   placed w l =
       let fields = after tab l in
-      either (eqb at 0)
-      (λ e. either (isSame (before tab l) sheetWord) (λ _. head-placed (eqb-true at 0 e) (numeralOf (before tab fields)) (numeralOf (after tab fields))) (λ _. nowhere))
-      (λ e. either (isSame (before tab l) cellWord)
+      either (Placed at) (eqb at 0)
+      (λ e. either (Placed at) (isSame (before tab l) sheetWord) (λ _. head-placed (eqb-true at 0 e) (numeralOf (before tab fields)) (numeralOf (after tab fields))) (λ _. nowhere))
+      (λ e. either (Placed at) (isSame (before tab l) cellWord)
       (λ _. cell-placed (nonzero at e) (patternOf w (before tab fields)) (patternOf w (after tab fields)))
-      (λ _. either (isSame (before tab l) sumWord)
+      (λ _. either (Placed at) (isSame (before tab l) sumWord)
       (λ _. sum-placed (nonzero at e) (numeralOf (before tab fields)) (numeralOf (before tab (after tab fields))) (numeralOf (after tab (after tab fields))))
       (λ _. nowhere)))
 
@@ -83,42 +84,38 @@ pub record Onto (text : List ℕ) (c d : Cursor) (w i j : ℕ) : Type 0 where
   pub sums : d .«sum_count» ≡ j
 
 -- what holds of a step from c
-pub data Given (text : List ℕ) (c : Cursor) : Step → Type 0 where
-  a-head : {w m : ℕ} {d : Cursor} → c .at ≡ 0 → headFault w m ≡ 0 → Onto text c d w 0 0 → Given text c (Head w m d)
-  a-cell : {I : Interval} {d : Cursor} → 0 < c .at → cellFault (c .width) I ≡ 0 → c .«cell_count» < 64 → Onto text c d (c .width) (c .«cell_count» + 1) (c .«sum_count») → Given text c (Cell I d)
-  a-sum : {t : Record} {d : Cursor} → 0 < c .at → sumFault (c .«cell_count») t ≡ 0 → c .«sum_count» < 128 → Onto text c d (c .width) (c .«cell_count») (c .«sum_count» + 1) → Given text c (Sum t d)
-  the-end : 0 < c .at → Given text c End
-  too-long : 8192 < length text → Given text c (refusedAt 8 0)
-  a-refusal : (number : ℕ) → Given text c (refusedAt number (c .line))
+pub data Sound (text : List ℕ) (c : Cursor) : Step → Type 0 where
+  a-head : {w m : ℕ} {d : Cursor} → c .at ≡ 0 → headFault w m ≡ 0 → Onto text c d w 0 0 → Sound text c (Head w m d)
+  a-cell : {I : Interval} {d : Cursor} → 0 < c .at → cellFault (c .width) I ≡ 0 → c .«cell_count» < 64 → Onto text c d (c .width) (c .«cell_count» + 1) (c .«sum_count») → Sound text c (Cell I d)
+  a-sum : {t : Record} {d : Cursor} → 0 < c .at → sumFault (c .«cell_count») t ≡ 0 → c .«sum_count» < 128 → Onto text c d (c .width) (c .«cell_count») (c .«sum_count» + 1) → Sound text c (Sum t d)
+  the-end : 0 < c .at → Sound text c End
+  too-long : 8192 < length text → Sound text c (refusedAt 8 0)
+  a-refusal : (number : ℕ) → Sound text c (refusedAt number (c .line))
 
 module _ (text : List ℕ) (c : Cursor) where
-  choose : (t : Bool) {a b : Step} → (t ≡ true → Given text c a) → (t ≡ false → Given text c b) → Given text c (cond t a b)
-  choose true p q = p refl
-  choose false p q = q refl
-
   module _ (n : ℕ) (k : c .at + n + 1 ≤ length text) (on : Lined text c → lineAfter (c .line) ≡ lineNumber text (c .at + n + 1)) where
     abbrev onto : (w i j : ℕ) → Onto text c (record { at = c .at + n + 1; line = lineAfter (c .line); width = w; «cell_count» = i; «sum_count» = j }) w i j
     onto w i j = record { past = omega arith; within = k; line = on; width = refl; cells = refl; sums = refl }
 
-    line-given : (l : Line) → Placed (c .at) l → Given text c (admitted l (c .line) (pastLine n c))
+    line-sound : (l : Line) → Placed (c .at) l → Sound text c (admitted l (c .line) (pastLine n c))
     unfolding admitted headStep cellStep sumStep
-    line-given (Line.Head w m) (head z) = choose (eqb (headFault w m) 0) (λ e. a-head z (eqb-true (headFault w m) 0 e) (onto w 0 0)) (λ _. a-refusal (headFault w m))
-    line-given (Line.Cell I) (cell p) =
-        choose (eqb (cellFault (c .width) I) 0)
-        (λ e. choose (ltb (c .«cell_count») 64) (λ f. a-cell p (eqb-true (cellFault (c .width) I) 0 e) (ltb-true (c .«cell_count») 64 f) (onto (c .width) (c .«cell_count» + 1) (c .«sum_count»))) (λ _. a-refusal 10))
+    line-sound (Line.Head w m) (head z) = either (Sound text c) (eqb (headFault w m) 0) (λ e. a-head z (eqb-true (headFault w m) 0 e) (onto w 0 0)) (λ _. a-refusal (headFault w m))
+    line-sound (Line.Cell I) (cell p) =
+        either (Sound text c) (eqb (cellFault (c .width) I) 0)
+        (λ e. either (Sound text c) (ltb (c .«cell_count») 64) (λ f. a-cell p (eqb-true (cellFault (c .width) I) 0 e) (ltb-true (c .«cell_count») 64 f) (onto (c .width) (c .«cell_count» + 1) (c .«sum_count»))) (λ _. a-refusal 10))
         (λ _. a-refusal (cellFault (c .width) I))
-    line-given (Line.Sum t) (sum p) =
-        choose (eqb (sumFault (c .«cell_count») t) 0)
-        (λ e. choose (ltb (c .«sum_count») 128) (λ f. a-sum p (eqb-true (sumFault (c .«cell_count») t) 0 e) (ltb-true (c .«sum_count») 128 f) (onto (c .width) (c .«cell_count») (c .«sum_count» + 1))) (λ _. a-refusal 10))
+    line-sound (Line.Sum t) (sum p) =
+        either (Sound text c) (eqb (sumFault (c .«cell_count») t) 0)
+        (λ e. either (Sound text c) (ltb (c .«sum_count») 128) (λ f. a-sum p (eqb-true (sumFault (c .«cell_count») t) 0 e) (ltb-true (c .«sum_count») 128 f) (onto (c .width) (c .«cell_count») (c .«sum_count» + 1))) (λ _. a-refusal 10))
         (λ _. a-refusal (sumFault (c .«cell_count») t))
-    line-given Line.Malformed nowhere = a-refusal 4
+    line-sound Line.Malformed nowhere = a-refusal 4
 
-pub given : (text : List ℕ) (c : Cursor) → Given text c (nextOf text c)
+pub sound : (text : List ℕ) (c : Cursor) → Sound text c (nextOf text c)
 unfolding nextOf
-given text c =
+sound text c =
     let rest = drop (c .at) text in
     let n = indexOf feed rest in
-    choose text c (ltb 8192 (length text)) (λ e. too-long (ltb-true 8192 (length text) e))
-    (λ s. choose text c (ltb n (length rest))
-    (λ e. let h = ltb-true n (length rest) e in line-given text c n (omega (arith, length-drop (c .at) text)) (λ l. ap lineAfter l ∙ sym (line-past text (c .at) (ltb-false 8192 (length text) s) h)) (lineOf (c .at) (c .width) (before feed rest)) (placed (c .at) (c .width) (before feed rest)))
-    (λ _. choose text c (eqb (length rest) 0) (λ _. choose text c (eqb (c .at) 0) (λ _. a-refusal 4) (λ e. the-end (nonzero (c .at) e))) (λ _. a-refusal 4)))
+    either (Sound text c) (ltb 8192 (length text)) (λ e. too-long (ltb-true 8192 (length text) e))
+    (λ s. either (Sound text c) (ltb n (length rest))
+    (λ e. let h = ltb-true n (length rest) e in line-sound text c n (omega (arith, length-drop (c .at) text)) (λ l. ap lineAfter l ∙ sym (line-past text (c .at) (ltb-false 8192 (length text) s) h)) (lineOf (c .at) (c .width) (before feed rest)) (placed (c .at) (c .width) (before feed rest)))
+    (λ _. either (Sound text c) (eqb (length rest) 0) (λ _. either (Sound text c) (eqb (c .at) 0) (λ _. a-refusal 4) (λ e. the-end (nonzero (c .at) e))) (λ _. a-refusal 4)))

@@ -1,7 +1,7 @@
 -- What is written as a line is read as its record: the head, a cell, a sum. Rests on specs/Texts, Numerals and Fields.
-use mathlib.Core.Path.{_≡_, refl}
+use mathlib.Core.Path.{_≡_}
 use mathlib.Core.Logic.{inl, inr}
-use mathlib.Core.Bool.{Bool, true, false, cond, _&&_}
+use mathlib.Core.Bool.{Bool, true, false, cond, and-eq-true-iff}
 use mathlib.Core.List.{_∷_, _++_}
 use Prim.Native.Nat.{ℕ, _*_, _^_, _≤_, _<_}
 use native.Mathlib.Omega.{arith}
@@ -48,12 +48,9 @@ pub record Small (w : ℕ) (I : Interval) : Type 0 where
 
 pub cell-small : (w : ℕ) (I : Interval) → cellFault w I ≡ 0 → Small w I
 unfolding endsFinite
-cell-small w I z = both (isFinite (formatOf w) (I .low)) (isFinite (formatOf w) (I .high)) refl refl (fault-free w I z .finite)
-  where
-    both : (a b : Bool) → isFinite (formatOf w) (I .low) ≡ a → isFinite (formatOf w) (I .high) ≡ b → (a && b) ≡ true → Small w I
-    both true true p q e = record { low = pattern-small w (I .low) p; high = pattern-small w (I .high) q }
-    both true false p q e = absurd (let z : _≡_ {A = ℕ} 0 1 = cc in omega arith)
-    both false b p q e = absurd (let z : _≡_ {A = ℕ} 0 1 = cc in omega arith)
+cell-small w I z =
+    let e = and-eq-true-iff (isFinite (formatOf w) (I .low)) (isFinite (formatOf w) (I .high)) .0 (fault-free w I z .finite) in
+    record { low = pattern-small w (I .low) (e .0); high = pattern-small w (I .high) (e .1) }
 
 -- ---- the head
 head-fields : (w m : ℕ) → w < 100000 → m < 100000 → headIn (decimalOf w ++ (tab ∷ decimalOf m)) ≡ Head w m

@@ -14,7 +14,8 @@ use Rattle.sheet.specs.declared.kept.Record.{Record}
 use Rattle.sheet.specs.declared.kept.Sheet.{Sheet}
 use Rattle.sheet.specs.declared.kept.Answer.the-variants.{Done}
 use Rattle.sheet.specs.Faults.{headFault, cellFault, sumFault}
-use Rattle.sheet.specs.Sheets.{noCell, noSum, blank, usedCells, usedSums, tidied, testOf}
+use Rattle.sheet.specs.Sheets.{blank, usedCells, usedSums, tidied, testOf}
+use Rattle.sheet.specs.Lists.{testOfLists}
 use Rattle.sheet.proofs.Answers.{opened, all-good}
 use Rattle.sheet.proofs.Sums.{names-of}
 use Rattle.sheet.proofs.Tidied.{good-head}
@@ -22,9 +23,9 @@ use Rattle.reader.specs.Bytes.{indexOf, countOf}
 use Rattle.reader.specs.Lines.{feed}
 use Rattle.reader.specs.Steps.{start, headStep, cellStep, sumStep, admitted, nextOf}
 use Rattle.reader.specs.Readings.{readFrom, readOf}
-use Rattle.reader.specs.Texts.{headText, cellText, sumText, textLines, textFor, textOf}
+use Rattle.reader.specs.Texts.{headText, cellText, sumText, textLines, textFor, built, textOf}
 use Rattle.reader.specs.declared.cursor.Step.the-variants.{Head, Cell, Sum, End}
-use Rattle.reader.proofs.Building.{Faultless, faultless-list, faultless-front, faultless-next, built, Passing, length-more, add-cell, add-sum}
+use Rattle.reader.proofs.Building.{Faultless, faultless-front, faultless-next, Passing, lists-passing, length-more, add-cell, add-sum}
 use Rattle.reader.proofs.Records.{cell-small, Few, head-back, cell-back, sum-back, head-free, cell-free, sum-free, head-length, cell-length, sum-length}
 use Rattle.reader.proofs.Walking.{after, next-line, walk}
 
@@ -83,7 +84,10 @@ lines-long line [] = omega arith
 lines-long line (v ∷ vs) = simp length-append (omega (arith, lines-long line vs))
 
 -- ---- the text of cells and sums that the test lets pass
-module _ (w m : ℕ) (cs : List Interval) (ts : List Record) (g : Passing w m cs ts) where
+module _ (w m : ℕ) (cs : List Interval) (ts : List Record) (tested : testOfLists w m cs ts ≡ Done) where
+  g : Passing w m cs ts
+  g = lists-passing w m cs ts tested
+
   abbrev text : List ℕ
   text = textFor w m cs ts
 
@@ -170,11 +174,4 @@ round-trip s a b t =
     let p = all-good (s .width) (s .limit) (s .«cell_count») (s .«sum_count») (usedCells s) (usedSums s) t in
     let c : length (usedCells s) ≡ s .«cell_count» = length-take-le (s .«cell_count») (s .cells) (omega (arith, p .few-cells)) in
     let d : length (usedSums s) ≡ s .«sum_count» = length-take-le (s .«sum_count») (s .sums) (omega (arith, p .few-sums)) in
-    let g : Passing (s .width) (s .limit) (usedCells s) (usedSums s) = record {
-      head = p .head;
-      few-cells = omega (arith, p .few-cells);
-      few-sums = omega (arith, p .few-sums);
-      cells = faultless-list (cellFault (s .width)) noCell 0 (usedCells s) (p .cells-good);
-      sums = rw c (faultless-list (sumFault (s .«cell_count»)) noSum 0 (usedSums s) (p .sums-good));
-    } in
-    lists-back (s .width) (s .limit) (usedCells s) (usedSums s) g ∙ rw (c, d)
+    lists-back (s .width) (s .limit) (usedCells s) (usedSums s) (rw (c, d) t) ∙ rw (c, d)

@@ -1,4 +1,4 @@
--- The reader gives every refusal itself: the sheet takes every record that it gives, and what is read passes the sheet's own test. Rests on Moving, Following and Building.
+-- The reader keeps the width and the counts, and gives every refusal itself: the sheet takes every record that it gives, and what is read passes the sheet's own test. Rests on Moving, Following and Building.
 use mathlib.Core.Path.{_≡_, refl, sym, ap, subst, _∙_}
 use mathlib.Core.List.{List, [], _∷_, _++_}
 use Prim.Native.Nat.{ℕ, zero, suc, _+_, _<_}
@@ -15,12 +15,13 @@ use Rattle.sheet.proofs.Answers.{opened}
 use Rattle.sheet.proofs.Sums.{sum-more}
 use Rattle.reader.specs.Steps.{nextOf, past, afterOf, cursorAfter}
 use Rattle.reader.specs.Readings.{readOf, grown, sheetAfter, Taken, EndsWith, ReadBy}
+use Rattle.reader.specs.Texts.{built}
 use Rattle.reader.specs.declared.cursor.Cursor.{Cursor}
 use Rattle.reader.specs.declared.cursor.Step.{Step}
 use Rattle.reader.specs.declared.cursor.Step.the-variants.{Head, Cell, Sum, End, Refused}
-use Rattle.reader.proofs.Moving.{Onto, Given, a-head, a-cell, a-sum, the-end, given}
+use Rattle.reader.proofs.Moving.{Onto, Sound, a-head, a-cell, a-sum, the-end, sound}
 use Rattle.reader.proofs.Following.{read-records}
-use Rattle.reader.proofs.Building.{Faultless, faultless-append, built, Passing, length-more, built-passes, add-cell, add-sum}
+use Rattle.reader.proofs.Building.{Faultless, faultless-append, Passing, length-more, built-passes, add-cell, add-sum}
 
 -- ---- sums without a fault have none where there is one cell more
 sums-more : (n : ℕ) (ts : List Record) → Faultless (sumFault n) ts → Faultless (sumFault (n + 1)) ts
@@ -28,7 +29,7 @@ sums-more n [] f = tt
 sums-more n (t ∷ ts) f = (sum-more n t (f .0), sums-more n ts (f .1))
 
 -- ---- the sheet read so far is built of the records, and the cursor keeps its width and counts
-pub record ReadSoFar (c : Cursor) (s : Sheet) : Type 0 where
+record ReadSoFar (c : Cursor) (s : Sheet) : Type 0 where
   pub limit : ℕ
   pub cells : List Interval
   pub sums : List Record
@@ -105,7 +106,7 @@ module _ (c : Cursor) (s : Sheet) (k : ReadSoFar c s) where
       }
 
 -- ---- after any number of records; where a cursor is past the start, a head was read
-step-read : (text : List ℕ) (c : Cursor) (s : Sheet) → (0 < c .at → ReadSoFar c s) → (t : Step) → Given text c t → 0 < past t c .at → ReadSoFar (past t c) (grown t s)
+step-read : (text : List ℕ) (c : Cursor) (s : Sheet) → (0 < c .at → ReadSoFar c s) → (t : Step) → Sound text c t → 0 < past t c .at → ReadSoFar (past t c) (grown t s)
 step-read text c s k (Head w m d) (a-head z f o) h = head-read text c d w m f o
 step-read text c s k (Cell I d) (a-cell p f l o) h = cell-read c s (k p) text d I f l o
 step-read text c s k (Sum t d) (a-sum p f l o) h = sum-read c s (k p) text d t f l o
@@ -115,10 +116,20 @@ step-read text c s k (Refused r) g h = k h
 read-so-far : (n : ℕ) (text : List ℕ) → 0 < cursorAfter n text .at → ReadSoFar (cursorAfter n text) (sheetAfter n text)
 unfolding cursorAfter afterOf sheetAfter
 read-so-far zero text h = absurd (omega arith)
-read-so-far (suc n) text h = step-read text (cursorAfter n text) (sheetAfter n text) (read-so-far n text) (nextOf text (cursorAfter n text)) (given text (cursorAfter n text)) h
+read-so-far (suc n) text h = step-read text (cursorAfter n text) (sheetAfter n text) (read-so-far n text) (nextOf text (cursorAfter n text)) (sound text (cursorAfter n text)) h
+
+-- past the start, the cursor's width and counts are those of the sheet made of the records before it
+pub kept-counts :
+    (n : ℕ) (text : List ℕ) → 0 < cursorAfter n text .at →
+    (cursorAfter n text .width ≡ sheetAfter n text .width)
+    × (cursorAfter n text .«cell_count» ≡ sheetAfter n text .«cell_count»)
+    × (cursorAfter n text .«sum_count» ≡ sheetAfter n text .«sum_count»)
+kept-counts n text h =
+    let k = read-so-far n text h in
+    (ap (λ (s : Sheet). s .width) (sym (k .is)), k .cell-count ∙ ap (λ (s : Sheet). s .«cell_count») (sym (k .is)), k .sum-count ∙ ap (λ (s : Sheet). s .«sum_count») (sym (k .is)))
 
 -- what the cursor gives, the sheet of the records before it takes
-step-taken : (text : List ℕ) (c : Cursor) (s : Sheet) → (0 < c .at → ReadSoFar c s) → (t : Step) → Given text c t → Taken s t
+step-taken : (text : List ℕ) (c : Cursor) (s : Sheet) → (0 < c .at → ReadSoFar c s) → (t : Step) → Sound text c t → Taken s t
 step-taken text c s k (Head w m d) (a-head z f o) = ap (λ (a : Kept). a .answer) (head-added w m f)
 step-taken text c s k (Cell I d) (a-cell p f l o) = ap (λ (a : Kept). a .answer) (cell-added c s (k p) I f l)
 step-taken text c s k (Sum t d) (a-sum p f l o) = ap (λ (a : Kept). a .answer) (sum-added c s (k p) t f l)
@@ -126,10 +137,10 @@ step-taken text c s k End g = tt
 step-taken text c s k (Refused r) g = tt
 
 pub read-taken : (n : ℕ) (text : List ℕ) → Taken (sheetAfter n text) (nextOf text (cursorAfter n text))
-read-taken n text = step-taken text (cursorAfter n text) (sheetAfter n text) (read-so-far n text) (nextOf text (cursorAfter n text)) (given text (cursorAfter n text))
+read-taken n text = step-taken text (cursorAfter n text) (sheetAfter n text) (read-so-far n text) (nextOf text (cursorAfter n text)) (sound text (cursorAfter n text))
 
 -- ---- the whole text: what is read passes the test
-ends-tested : (text : List ℕ) (c : Cursor) (s r : Sheet) → (0 < c .at → ReadSoFar c s) → (t : Step) → Given text c t → EndsWith s t (record { sheet = r; answer = Done }) → testOf r ≡ Done
+ends-tested : (text : List ℕ) (c : Cursor) (s r : Sheet) → (0 < c .at → ReadSoFar c s) → (t : Step) → Sound text c t → EndsWith s t (record { sheet = r; answer = Done }) → testOf r ≡ Done
 ends-tested text c s r k (Head w m d) g e = absurd e
 ends-tested text c s r k (Cell I d) g e = absurd e
 ends-tested text c s r k (Sum t d) g e = absurd e
@@ -140,4 +151,4 @@ pub read-tested : (text : List ℕ) (s : Sheet) → readOf text ≡ record { she
 read-tested text s h =
     let b = subst (ReadBy text) h (read-records text) in
     let c = cursorAfter (b .records) text in
-    ends-tested text c (sheetAfter (b .records) text) s (read-so-far (b .records) text) (nextOf text c) (given text c) (b .ends)
+    ends-tested text c (sheetAfter (b .records) text) s (read-so-far (b .records) text) (nextOf text c) (sound text c) (b .ends)

@@ -24,7 +24,7 @@ numeralOf f =
     (cond (ltb 5 (length f)) Malformed
     (cond (eqb (getD f 0 0) 48) Malformed (valueFrom 10 0 f))))
 
--- the digits of a pattern by width: 8 for 32, 16 for 64
+-- the digits of a pattern by width: 8 for 32, 16 for any other
 unfoldable pub digitsFor : ℕ → ℕ
 digitsFor width = cond (eqb width 32) 8 16
 

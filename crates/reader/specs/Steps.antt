@@ -66,7 +66,7 @@ abbrev pub pastLine : ℕ → Cursor → Cursor
 pastLine n c = record { at = c .at + n + 1; line = lineAfter (c .line); width = c .width; «cell_count» = c .«cell_count»; «sum_count» = c .«sum_count» }
 
 -- ---- a text
--- with `ahead` still to be read: a line, or where no line feed is left, the end, which a text without a head has not. A refusal's line is the one that the cursor keeps
+-- with `ahead` still to be read: a line, or where no line feed is left, the end: 4 for bytes without a line feed and for a text without a head. A refusal's line is the one that the cursor keeps
 abbrev pub stepAt : List ℕ → Cursor → Step
 stepAt ahead c =
     cond (ltb (indexOf feed ahead) (length ahead))

@@ -1,10 +1,12 @@
--- 01's text of a kept sheet: its head, then its cells and its sums, a line each. Assumes nothing.
+-- 01's text of a kept sheet: its head, then its cells and its sums, a line each; and the sheet of such lists. Assumes nothing.
 use Prim.Native.Nat.{ℕ}
-use mathlib.Core.List.{List, [], _∷_, _++_}
+use mathlib.Core.List.{List, [], _∷_, _++_, map}
+use lib.ListN.{length}
 use Rattle.arith.specs.declared.interval.Interval.{Interval}
 use Rattle.sheet.specs.declared.kept.Record.{Record}
 use Rattle.sheet.specs.declared.kept.Sheet.{Sheet}
-use Rattle.sheet.specs.Sheets.{usedCells, usedSums}
+use Rattle.sheet.specs.Cells.{canonicalCell}
+use Rattle.sheet.specs.Sheets.{noCell, noSum, filled, usedCells, usedSums}
 use Rattle.reader.specs.Lines.{tab, feed, sheetWord, cellWord, sumWord}
 use Rattle.reader.specs.Digits.{decimalOf, hexOf}
 
@@ -30,6 +32,18 @@ textLines line (v ∷ vs) = line v ++ (feed ∷ textLines line vs)
 -- the text of a head, cells and sums
 abbrev pub textFor : ℕ → ℕ → List Interval → List Record → List ℕ
 textFor w m cells sums = headText w m ++ (feed ∷ (textLines (cellText w) cells ++ textLines sumText sums))
+
+-- the kept sheet with these cells and sums in use: each end in its one pattern, unused places zero
+abbrev pub built : ℕ → ℕ → List Interval → List Record → Sheet
+built w m cells sums =
+    record {
+      width = w;
+      limit = m;
+      «cell_count» = length cells;
+      «sum_count» = length sums;
+      cells = filled 64 noCell (map (canonicalCell w) cells) (length cells);
+      sums = filled 128 noSum sums (length sums);
+    }
 
 -- the whole text of a sheet
 unfoldable pub textOf : Sheet → List ℕ

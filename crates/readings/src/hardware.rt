@@ -2,7 +2,6 @@
 //
 // Exactness is read off the hardware too. For |u| >= |v| and b = u + v rounded to nearest and finite, b - u and v - (b - u)
 // are exact (Dekker's error-free addition), so v - (b - u) is what rounding lost: zero exactly when the sum is exact.
-ghost use Prim.Native.Nat.{_%_, _<_};
 
 pub(crate) struct Added {
     pub(crate) bits: u64,

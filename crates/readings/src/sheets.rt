@@ -173,8 +173,8 @@ fn read_listed(limit: u64, reply: Reply) {
     conclude(show_run(listed(limit)), reply, cells);
 }
 
-// 01's sheet whose cells 0 and 2 lose a place at each end in every pass.
-fn closing(limit: u64) -> Sheet {
+// 01's sheet of two sums, whose cells 0 and 2 lose a place at each end in every pass.
+fn two_sums(limit: u64) -> Sheet {
     let s = opened(64, limit);
     let s = with_cell(s, interval(0, 10));
     let s = with_cell(s, point(1));
@@ -185,8 +185,8 @@ fn closing(limit: u64) -> Sheet {
 }
 
 // A line for it, with cells 0 and 2 from low to high.
-fn read_closing(limit: u64, reply: Reply, low: u64, high: u64) {
-    put_text(b"sheet, closing, limit");
+fn read_two_sums(limit: u64, reply: Reply, low: u64, high: u64) {
+    put_text(b"sheet, two sums, limit");
     put_number(limit);
     let cells = Four {
         c0: interval(low, high),
@@ -194,10 +194,10 @@ fn read_closing(limit: u64, reply: Reply, low: u64, high: u64) {
         c2: interval(low, high),
         c3: point(0),
     };
-    conclude(show_run(closing(limit)), reply, cells);
+    conclude(show_run(two_sums(limit)), reply, cells);
 }
 
-// A sheet of one cell, the other zero, which gets its one pattern.
+// A sheet of one cell, which is zero with its sign set and gets zero's one pattern.
 fn read_no_sums() {
     put_text(b"sheet, no sums");
     let zero = point(0);
@@ -214,14 +214,14 @@ fn read_no_sums() {
 fn read_examples() {
     read_listed(10, settled(2));
     read_listed(1, stopped(1));
-    read_closing(5, stopped(5), 5, 5);
-    read_closing(6, no_triple(6, 0), 0, 10);
+    read_two_sums(5, stopped(5), 5, 5);
+    read_two_sums(6, no_triple(6, 0), 0, 10);
     read_no_sums();
 }
 
 // 01's last trap: each sum of the first pass is cut exactly, and the second sum moves a cell of the first, so nothing is settled.
 fn read_trap() {
-    read_closing(1, stopped(1), 1, 9);
+    read_two_sums(1, stopped(1), 1, 9);
 }
 
 // A sheet handed in with the given head and counts, all cells and sums zero.

@@ -1,7 +1,8 @@
 -- `reader::cursor::skip` meets its contract: the cursor is the one after as many records as turns. Assumes nothing.
-use Prim.Native.Nat.{ℕ, suc, _+_, _≤_, _-_}
+use Prim.Native.Nat.{ℕ, _+_, _≤_, _-_}
 use mathlib.Core.List.{List}
 use mathlib.Core.Path.{_≡_, sym, ap, _∙_}
+use native.Mathlib.Numerals.{add-one}
 use native.Mathlib.Omega.{arith}
 use Rattle.reader.specs.Steps.{afterOf, advanceOf, cursorAfter}
 use Rattle.reader.specs.declared.cursor.Moved.{Moved}
@@ -9,12 +10,9 @@ use borrow.Author.Needs.{needs}
 use Rattle.reader.proofs.cursor.skip.Statement.{statement}
 use Rattle.reader.proofs.cursor.skip.Tie as tie
 
-more : (n : ℕ) → n + 1 ≡ suc n
-more n = omega arith
-
 one-more : (text : List ℕ) (n : ℕ) → cursorAfter (n + 1) text ≡ afterOf text (cursorAfter n text)
 unfolding cursorAfter
-one-more text n = ap (λ (k : ℕ). cursorAfter k text) (more n)
+one-more text n = ap (λ (k : ℕ). cursorAfter k text) (add-one n)
 
 abbrev Inv-loop : tie.InvT-loop
 Inv-loop text n cursor₀ i₀ cursor i = (cursor ≡ cursorAfter i text) × (i ≤ n)
