@@ -31,8 +31,8 @@ use std::hint::black_box;
 use std::time::Instant;
 use words::Words;
 
-/// How many cases a line has, and how often each is called. The few come again so soon that the processor remembers how many
-/// of their branches went; the many do not.
+/// How many cases a line has, and how often each is called. The few come again so soon that the processor can foresee many of
+/// their branches; the many do not.
 #[derive(Clone, Copy)]
 struct Amount {
     cases: usize,

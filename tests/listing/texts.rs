@@ -40,7 +40,7 @@ cell 1 4330000000000001 4340000000000000
 cell 2 3FF0000000000000 3FF0000000000000
 ";
 
-const COUNTING: &str = "cell 0000000000000000 000000000000000A
+const TWO_SUMS: &str = "cell 0000000000000000 000000000000000A
 cell 0000000000000001 0000000000000001
 cell 0000000000000000 000000000000000A
 cell 0000000000000000 0000000000000000
@@ -60,18 +60,18 @@ pub fn examples() -> Vec<Case> {
     vec![
         printing("the listing", &format!("sheet 64 10\n{CELLS}"), &format!("settled 2\n{NARROWED}")),
         printing("limit 1", &format!("sheet 64 1\n{CELLS}"), &format!("stopped 1\n{NARROWED}")),
-        printing("counting, limit 5", &format!("sheet 64 5\n{COUNTING}"), STOPPED),
-        printing("counting, limit 6", &format!("sheet 64 6\n{COUNTING}"), "none 6 0\n"),
+        printing("two sums, limit 5", &format!("sheet 64 5\n{TWO_SUMS}"), STOPPED),
+        printing("two sums, limit 6", &format!("sheet 64 6\n{TWO_SUMS}"), "none 6 0\n"),
         printing("no records", "sheet 32 1\n", "settled 1\n"),
         printing("no sums", "sheet 32 1\ncell 80000000 80000000\n", "settled 1\ncell 0 00000000 00000000\n"),
         printing("empty", "", "refused 4 1\n"),
     ]
 }
 
-/// The same, each in two parts: cut in the head, in the middle and before the last line feed.
+/// The same but the empty one, each in two parts: cut in the head, in the middle and before the last line feed.
 pub fn parted() -> Vec<Case> {
     let cut = |case: Case| {
-        let last = case.text.len().saturating_sub(1);
+        let last = case.text.len() - 1;
         [3, last / 2, last].map(|pause| Case { pause: pause.min(last), ..case.clone() })
     };
     examples().into_iter().filter(|case| !case.text.is_empty()).flat_map(cut).collect()

@@ -1,4 +1,4 @@
--- Step 1 of the forward sum: magnitudes taken apart and the exact sum of two, with nothing lost. Rests on `ladder`'s Magnitude and Ordinals.
+-- Step 1 of the forward sum: magnitudes taken apart and the exact sum of two, with nothing lost. Rests on `ladder`'s Magnitude, Multiples and Ordinals.
 use mathlib.Core.Path.{_≡_, refl, sym, ap, ap₂, _∙_, subst}
 use mathlib.Core.Logic.{inl, inr}
 use mathlib.Core.Bool.{Bool, true, false, not, cond, Bool·beq}

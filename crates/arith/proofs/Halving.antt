@@ -1,4 +1,4 @@
--- Half of a number of units, rounded toward zero: from a word and a shift, and of two numbers that agree in the digits that count. Rests on `ladder`'s Truncation.
+-- Half of a number of units, rounded toward zero: from a word and a shift, and of two numbers that agree in the digits that count. Rests on `ladder`'s Truncation, Digits and Magnitude.
 use mathlib.Core.Path.{_≡_, refl, sym, ap, ap₂, _∙_}
 use mathlib.Core.Logic.{inl, inr}
 use mathlib.Core.Bool.{Bool, true, false}

@@ -1,4 +1,4 @@
--- The ends of an interval, of a cut and of a mirror are finite. Rests on `ladder`'s laws of ordinals.
+-- The ends of an interval, of a cut and of a mirror are finite. Rests on `ladder`'s Ordinals and Solutions.
 use mathlib.Core.Path.{_≡_, sym, subst}
 use mathlib.Core.Bool.{true}
 use native.Mathlib.Omega.{arith}

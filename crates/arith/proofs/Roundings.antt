@@ -129,7 +129,6 @@ module _ (f n s : ℕ) (some : 1 ≤ f) where
 
   pub short-high : (r u p : ℕ) → 0 < n → size n + r ≡ f + 1 → r < s → u ≡ (s - r) * 2 ^ f → p ≡ n * 2 ^ r → record { place = u + p; exact = true } ≡ roundingOf f (n * 2 ^ s)
   short-high r u p pos h l U E =
-      let g : size n + r ≡ suc f = omega arith in
       let a : 2 ^ f ≤ p = omega (arith, shifted-ge n r f pos (omega arith)) in
       let b : p ≤ 2 * 2 ^ f = omega (arith, shifted-lt n r (suc f) (omega arith), pow-succ' 2 f) in
       let w : r + (s - r) ≡ s = omega arith in

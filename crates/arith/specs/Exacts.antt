@@ -34,7 +34,7 @@ exactOf f negative opposite m n =
 unfoldable pub sizeOf : Exact → ℕ
 sizeOf t = cond (t .opposite) (t .larger * 2 ^ t .gap - t .smaller) (t .larger * 2 ^ t .gap + t .smaller) * 2 ^ t .shift
 
--- what rounding relies on: both significands have at most d + 1 digits, where there is a gap, the larger has all of them, the smaller part is no larger than the larger one, and the exponent fits a word
+-- what rounding relies on: both significands have at most d + 1 digits; where there is a gap, the larger has all of them; the smaller part is no larger than the larger one; the exponent fits a word
 pub record Shaped (d : ℕ) (t : Exact) : Type 0 where
   pub larger : t .larger < 2 * 2 ^ d
   pub smaller : t .smaller < 2 * 2 ^ d

@@ -64,7 +64,7 @@ fn least_above(format: Format, x: Range, a: Range, b: Range, known: u64) -> u64
     lesser_before(format, a, x, b, s)
 }
 
-// The least b in a triple. The least sum with x's low end mostly is it, as one corner below it tells.
+// The least b in a triple. The least sum with x's low end is it, unless a corner is found for the b below that.
 fn least_with(format: Format, x: Range, a: Range, b: Range, known: u64) -> u64
     requires { ⌜ (Sound format) × (Bounded format x) × (Bounded format a) × (Bounded format b) × (b .low ≤ sum format (x .low) (a .high)) × (b .low ≤ sum format (x .high) (a .low)) × (HasB format x a b known) ⌝ }
     ensures { λ r. ⌜ Least (HasB format x a b) r ⌝ }

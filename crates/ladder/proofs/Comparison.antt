@@ -1,7 +1,7 @@
 -- The order is the one of the kit's account of IEEE 754, lib.Ieee's `lt`, `eq` and `le`, which `<`, `==` and `<=` on `f32` and `f64` have: two finite patterns compare as their ordinals do, so that both zeros are equal. Rests on Standard.
 use mathlib.Core.Path.{_≡_, refl, sym, ap, ap₂, _∙_}
 use mathlib.Core.Logic.{inl, inr}
-use mathlib.Core.Bool.{Bool, true, false, not, _&&_, _||_}
+use mathlib.Core.Bool.{Bool, true, false, not, _&&_, _||_, and-true, and-comm}
 use Prim.Native.Nat.{ℕ, _+_, _-_, _*_, _^_, _≤_, _<_}
 use native.Mathlib.Nat.{add-comm, mul-pos}
 use native.Mathlib.Omega.{arith}
@@ -41,16 +41,6 @@ leb-or a b = elim (trichotomy a b) [
     | inr g ↦ simp (lt-leb _ _ g, le-ltb a b (omega arith), ne-eqb a b (λ (e : a ≡ b). omega arith))
   ]
 ]
-
-and-true : (p : Bool) → (p && true) ≡ p
-and-true true = refl
-and-true false = refl
-
-and-comm : (p q : Bool) → (p && q) ≡ (q && p)
-and-comm true true = refl
-and-comm true false = refl
-and-comm false true = refl
-and-comm false false = refl
 
 both-zero : (a b : ℕ) → (eqb a b && eqb a 0) ≡ not (ltb 0 (a + b))
 both-zero a b = elim (trichotomy a 0) [

@@ -170,10 +170,7 @@ module _ (f e : ℕ) (some : 1 ≤ f) where
   under-twice I n y h = omega (arith, n .high .high, infinity-lt-sign f e)
 
   module _ (B : Interval) (n : Bounded f e B) where
-    abbrev R : Interval
-    R = reflection f e B
-
-    pub mirror-skips : (z y : ℕ) → z ≤ 2 * s → y + 1 ≤ 2 * s → Skips f e B z y → Skips f e R (mirrored f e z) (mirrored f e (y + 1))
+    pub mirror-skips : (z y : ℕ) → z ≤ 2 * s → y + 1 ≤ 2 * s → Skips f e B z y → Skips f e (reflection f e B) (mirrored f e z) (mirrored f e (y + 1))
     mirror-skips z y h l w =
         let c = infinity-lt-sign f e in
         let at : mirrored f e (y + 1) + 1 ≡ mirrored f e y = omega arith in
@@ -182,7 +179,7 @@ module _ (f e : ℕ) (some : 1 ≤ f) where
           past = omega (arith, ap (sum f e (mirrored f e z)) at, sum-mirror f e some z y h (omega arith), w .short, n .low .high);
         }
 
-    mirror-multiple : (k : ℕ) → SomeMultiple f k (s - B .high) (s - B .low) → SomeMultiple f k (R .low - s) (R .high - s)
+    mirror-multiple : (k : ℕ) → SomeMultiple f k (s - B .high) (s - B .low) → SomeMultiple f k (reflection f e B .low - s) (reflection f e B .high - s)
     mirror-multiple k t = record { m = t .m; low = omega (arith, t .low); high = omega (arith, t .high); divides = t .divides }
 
   -- ---- no turn that skips B is followed by another
@@ -196,7 +193,7 @@ module _ (f e : ℕ) (some : 1 ≤ f) where
         let d = under-twice A na q j' in
         let v' = mirror-skips B nb q y d b v in
         let w' = mirror-skips B nb (y + 1) c b (omega arith) w in
-        positive-down (R B nb) (mirror-bounded f e B nb) (omega (arith, t .low, t .high)) k (omega arith) (mirror-multiple B nb (k - 1) t) (mirrored f e q) (mirrored f e (y + 1)) (mirrored f e (c + 1)) (omega arith) (omega arith) (omega arith) v' w'
+        positive-down (reflection f e B) (mirror-bounded f e B nb) (omega (arith, t .low, t .high)) k (omega arith) (mirror-multiple B nb (k - 1) t) (mirrored f e q) (mirrored f e (y + 1)) (mirrored f e (c + 1)) (omega arith) (omega arith) (omega arith) v' w'
 
     -- down short of B with p, then up past it
     pub once-down : Fine f e X A B → (p c y : ℕ) → X .low ≤ p → p ≤ y → y + 1 ≤ X .high → A .low ≤ c → c + 1 ≤ A .high → Skips f e B p c → Skips f e B c y → ⊥
@@ -208,4 +205,4 @@ module _ (f e : ℕ) (some : 1 ≤ f) where
         let v' = mirror-skips B nb p c (omega arith) d v in
         let w' = mirror-skips B nb c y (omega arith) b w in
         let at : mirrored f e (c + 1) + 1 ≡ mirrored f e c = omega arith in
-        positive-up (R B nb) (mirror-bounded f e B nb) (omega (arith, t .low, t .high)) k (omega arith) (mirror-multiple B nb (k - 1) t) (mirrored f e (c + 1)) (mirrored f e p) (mirrored f e (y + 1)) (omega arith) (omega arith) (omega arith) v' (subst (λ (z : ℕ). Skips f e (R B nb) z (mirrored f e (y + 1))) (sym at) w')
+        positive-up (reflection f e B) (mirror-bounded f e B nb) (omega (arith, t .low, t .high)) k (omega arith) (mirror-multiple B nb (k - 1) t) (mirrored f e (c + 1)) (mirrored f e p) (mirrored f e (y + 1)) (omega arith) (omega arith) (omega arith) v' (subst (λ (z : ℕ). Skips f e (reflection f e B) z (mirrored f e (y + 1))) (sym at) w')

@@ -183,8 +183,8 @@ module _ (F : Format) where
     pub m : ℕ
     pub is : p ≡ signedBits F b m
     pub low : m < ones F * hid F
-    pub above-is : above f e (ordinal f e p) ≡ cond b 0 (magnitude f m)
-    pub below-is : below f e (ordinal f e p) ≡ cond b (magnitude f m) 0
+    above-is : above f e (ordinal f e p) ≡ cond b 0 (magnitude f m)
+    below-is : below f e (ordinal f e p) ≡ cond b (magnitude f m) 0
 
   pub read-pattern : (p : ℕ) → isFinite f e p ≡ true → Read p
   read-pattern p h = elim (le-or-lt s p) [

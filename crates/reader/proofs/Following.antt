@@ -13,7 +13,7 @@ use Rattle.reader.specs.Readings.{refusedText, followed, readFrom, readO
 use Rattle.reader.specs.declared.cursor.Cursor.{Cursor}
 use Rattle.reader.specs.declared.cursor.Step.{Step}
 use Rattle.reader.specs.declared.cursor.Step.the-variants.{Head, Cell, Sum, End, Refused}
-use Rattle.reader.proofs.Moving.{Sound, a-head, a-cell, a-sum, the-end, too-long, a-refusal, sound}
+use Rattle.reader.proofs.Moving.{StepFrom, a-head, a-cell, a-sum, the-end, too-long, a-refusal, step-from}
 
 -- the whole text gives what reading on from c with the sheet s gives, and there are steps enough to reach the end
 pub record Reading (text : List ℕ) (c : Cursor) (s : Sheet) : Type 0 where
@@ -42,7 +42,7 @@ module _ (text : List ℕ) (c : Cursor) (n : ℕ) (h : length text - c .at < suc
   onward : (d : Cursor) (s : Sheet) → c .at < d .at → d .at ≤ length text → readOf text ≡ readFrom n text d s → Onward text c d s
   onward d s p q e = record { less = omega arith; reading = record { left = n; enough = omega arith; same = e } }
 
-  step-follows : (s : Sheet) (t : Step) → Sound text c t → readOf text ≡ followed (readFrom n text) s t → Follows text c s t
+  step-follows : (s : Sheet) (t : Step) → StepFrom text c t → readOf text ≡ followed (readFrom n text) s t → Follows text c s t
   step-follows s (Head w m d) (a-head z f o) e = onward d (openOf w m .sheet) (o .past) (o .within) e
   step-follows s (Cell I d) (a-cell p f l o) e = onward d (addCellOf s I .sheet) (o .past) (o .within) e
   step-follows s (Sum t d) (a-sum p f l o) e = onward d (addSumOf s t .sheet) (o .past) (o .within) e
@@ -53,7 +53,7 @@ module _ (text : List ℕ) (c : Cursor) (n : ℕ) (h : length text - c .at < suc
 read-follows : (text : List ℕ) (c : Cursor) (s : Sheet) (n : ℕ) → length text - c .at < n → readOf text ≡ readFrom n text c s → Follows text c s (nextOf text c)
 unfolding readFrom
 read-follows text c s zero h e = absurd (omega arith)
-read-follows text c s (suc n) h e = step-follows text c n h s (nextOf text c) (sound text c) e
+read-follows text c s (suc n) h e = step-follows text c n h s (nextOf text c) (step-from text c) e
 
 pub follows : {text : List ℕ} {c : Cursor} {s : Sheet} → Reading text c s → Follows text c s (nextOf text c)
 follows {text} {c} {s} r = read-follows text c s (r .left) (r .enough) (r .same)
@@ -65,7 +65,7 @@ module _ (text : List ℕ) where
     goes : (d : Cursor) (s : Sheet) → cursorAfter (suc k) text ≡ d → sheetAfter (suc k) text ≡ s → cursorAfter k text .at < d .at → d .at ≤ length text → ReadBy text (readFrom n text d s)
     goes d s e f p q = rw (e, f) at (more (suc k) (rw e (omega arith)))
 
-    step-records : (t : Step) → nextOf text (cursorAfter k text) ≡ t → Sound text (cursorAfter k text) t → ReadBy text (followed (readFrom n text) (sheetAfter k text) t)
+    step-records : (t : Step) → nextOf text (cursorAfter k text) ≡ t → StepFrom text (cursorAfter k text) t → ReadBy text (followed (readFrom n text) (sheetAfter k text) t)
     unfolding cursorAfter afterOf sheetAfter
     step-records (Head w m d) e (a-head z f o) = goes d (openOf w m .sheet) (rw e) (rw e) (o .past) (o .within)
     step-records (Cell I d) e (a-cell p f l o) = goes d (addCellOf (sheetAfter k text) I .sheet) (rw e) (rw e) (o .past) (o .within)
@@ -76,7 +76,7 @@ module _ (text : List ℕ) where
   from-records : (n k : ℕ) → length text - cursorAfter k text .at < n → ReadBy text (readFrom n text (cursorAfter k text) (sheetAfter k text))
   unfolding readFrom
   from-records zero k h = absurd (omega arith)
-  from-records (suc n) k h = step-records n (from-records n) k h (nextOf text (cursorAfter k text)) refl (sound text (cursorAfter k text))
+  from-records (suc n) k h = step-records n (from-records n) k h (nextOf text (cursorAfter k text)) refl (step-from text (cursorAfter k text))
 
   pub read-records : ReadBy text (readOf text)
   unfolding readOf cursorAfter sheetAfter

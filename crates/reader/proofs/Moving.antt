@@ -84,38 +84,38 @@ pub record Onto (text : List ℕ) (c d : Cursor) (w i j : ℕ) : Type 0 where
   pub sums : d .«sum_count» ≡ j
 
 -- what holds of a step from c
-pub data Sound (text : List ℕ) (c : Cursor) : Step → Type 0 where
-  a-head : {w m : ℕ} {d : Cursor} → c .at ≡ 0 → headFault w m ≡ 0 → Onto text c d w 0 0 → Sound text c (Head w m d)
-  a-cell : {I : Interval} {d : Cursor} → 0 < c .at → cellFault (c .width) I ≡ 0 → c .«cell_count» < 64 → Onto text c d (c .width) (c .«cell_count» + 1) (c .«sum_count») → Sound text c (Cell I d)
-  a-sum : {t : Record} {d : Cursor} → 0 < c .at → sumFault (c .«cell_count») t ≡ 0 → c .«sum_count» < 128 → Onto text c d (c .width) (c .«cell_count») (c .«sum_count» + 1) → Sound text c (Sum t d)
-  the-end : 0 < c .at → Sound text c End
-  too-long : 8192 < length text → Sound text c (refusedAt 8 0)
-  a-refusal : (number : ℕ) → Sound text c (refusedAt number (c .line))
+pub data StepFrom (text : List ℕ) (c : Cursor) : Step → Type 0 where
+  a-head : {w m : ℕ} {d : Cursor} → c .at ≡ 0 → headFault w m ≡ 0 → Onto text c d w 0 0 → StepFrom text c (Head w m d)
+  a-cell : {I : Interval} {d : Cursor} → 0 < c .at → cellFault (c .width) I ≡ 0 → c .«cell_count» < 64 → Onto text c d (c .width) (c .«cell_count» + 1) (c .«sum_count») → StepFrom text c (Cell I d)
+  a-sum : {t : Record} {d : Cursor} → 0 < c .at → sumFault (c .«cell_count») t ≡ 0 → c .«sum_count» < 128 → Onto text c d (c .width) (c .«cell_count») (c .«sum_count» + 1) → StepFrom text c (Sum t d)
+  the-end : 0 < c .at → StepFrom text c End
+  too-long : 8192 < length text → StepFrom text c (refusedAt 8 0)
+  a-refusal : (number : ℕ) → StepFrom text c (refusedAt number (c .line))
 
 module _ (text : List ℕ) (c : Cursor) where
   module _ (n : ℕ) (k : c .at + n + 1 ≤ length text) (on : Lined text c → lineAfter (c .line) ≡ lineNumber text (c .at + n + 1)) where
     abbrev onto : (w i j : ℕ) → Onto text c (record { at = c .at + n + 1; line = lineAfter (c .line); width = w; «cell_count» = i; «sum_count» = j }) w i j
     onto w i j = record { past = omega arith; within = k; line = on; width = refl; cells = refl; sums = refl }
 
-    line-sound : (l : Line) → Placed (c .at) l → Sound text c (admitted l (c .line) (pastLine n c))
+    line-step : (l : Line) → Placed (c .at) l → StepFrom text c (admitted l (c .line) (pastLine n c))
     unfolding admitted headStep cellStep sumStep
-    line-sound (Line.Head w m) (head z) = either (Sound text c) (eqb (headFault w m) 0) (λ e. a-head z (eqb-true (headFault w m) 0 e) (onto w 0 0)) (λ _. a-refusal (headFault w m))
-    line-sound (Line.Cell I) (cell p) =
-        either (Sound text c) (eqb (cellFault (c .width) I) 0)
-        (λ e. either (Sound text c) (ltb (c .«cell_count») 64) (λ f. a-cell p (eqb-true (cellFault (c .width) I) 0 e) (ltb-true (c .«cell_count») 64 f) (onto (c .width) (c .«cell_count» + 1) (c .«sum_count»))) (λ _. a-refusal 10))
+    line-step (Line.Head w m) (head z) = either (StepFrom text c) (eqb (headFault w m) 0) (λ e. a-head z (eqb-true (headFault w m) 0 e) (onto w 0 0)) (λ _. a-refusal (headFault w m))
+    line-step (Line.Cell I) (cell p) =
+        either (StepFrom text c) (eqb (cellFault (c .width) I) 0)
+        (λ e. either (StepFrom text c) (ltb (c .«cell_count») 64) (λ f. a-cell p (eqb-true (cellFault (c .width) I) 0 e) (ltb-true (c .«cell_count») 64 f) (onto (c .width) (c .«cell_count» + 1) (c .«sum_count»))) (λ _. a-refusal 10))
         (λ _. a-refusal (cellFault (c .width) I))
-    line-sound (Line.Sum t) (sum p) =
-        either (Sound text c) (eqb (sumFault (c .«cell_count») t) 0)
-        (λ e. either (Sound text c) (ltb (c .«sum_count») 128) (λ f. a-sum p (eqb-true (sumFault (c .«cell_count») t) 0 e) (ltb-true (c .«sum_count») 128 f) (onto (c .width) (c .«cell_count») (c .«sum_count» + 1))) (λ _. a-refusal 10))
+    line-step (Line.Sum t) (sum p) =
+        either (StepFrom text c) (eqb (sumFault (c .«cell_count») t) 0)
+        (λ e. either (StepFrom text c) (ltb (c .«sum_count») 128) (λ f. a-sum p (eqb-true (sumFault (c .«cell_count») t) 0 e) (ltb-true (c .«sum_count») 128 f) (onto (c .width) (c .«cell_count») (c .«sum_count» + 1))) (λ _. a-refusal 10))
         (λ _. a-refusal (sumFault (c .«cell_count») t))
-    line-sound Line.Malformed nowhere = a-refusal 4
+    line-step Line.Malformed nowhere = a-refusal 4
 
-pub sound : (text : List ℕ) (c : Cursor) → Sound text c (nextOf text c)
+pub step-from : (text : List ℕ) (c : Cursor) → StepFrom text c (nextOf text c)
 unfolding nextOf
-sound text c =
+step-from text c =
     let rest = drop (c .at) text in
     let n = indexOf feed rest in
-    either (Sound text c) (ltb 8192 (length text)) (λ e. too-long (ltb-true 8192 (length text) e))
-    (λ s. either (Sound text c) (ltb n (length rest))
-    (λ e. let h = ltb-true n (length rest) e in line-sound text c n (omega (arith, length-drop (c .at) text)) (λ l. ap lineAfter l ∙ sym (line-past text (c .at) (ltb-false 8192 (length text) s) h)) (lineOf (c .at) (c .width) (before feed rest)) (placed (c .at) (c .width) (before feed rest)))
-    (λ _. either (Sound text c) (eqb (length rest) 0) (λ _. either (Sound text c) (eqb (c .at) 0) (λ _. a-refusal 4) (λ e. the-end (nonzero (c .at) e))) (λ _. a-refusal 4)))
+    either (StepFrom text c) (ltb 8192 (length text)) (λ e. too-long (ltb-true 8192 (length text) e))
+    (λ s. either (StepFrom text c) (ltb n (length rest))
+    (λ e. let h = ltb-true n (length rest) e in line-step text c n (omega (arith, length-drop (c .at) text)) (λ l. ap lineAfter l ∙ sym (line-past text (c .at) (ltb-false 8192 (length text) s) h)) (lineOf (c .at) (c .width) (before feed rest)) (placed (c .at) (c .width) (before feed rest)))
+    (λ _. either (StepFrom text c) (eqb (length rest) 0) (λ _. either (StepFrom text c) (eqb (c .at) 0) (λ _. a-refusal 4) (λ e. the-end (nonzero (c .at) e))) (λ _. a-refusal 4)))

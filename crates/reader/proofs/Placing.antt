@@ -13,11 +13,11 @@ use Rattle.reader.specs.Readings.{refusedText, readOf, sheetAfter, EndsW
 use Rattle.reader.specs.declared.cursor.Cursor.{Cursor}
 use Rattle.reader.specs.declared.cursor.Step.{Step}
 use Rattle.reader.specs.declared.cursor.Step.the-variants.{Head, Cell, Sum, End, Refused}
-use Rattle.reader.proofs.Moving.{Lined, Sound, a-head, a-cell, a-sum, too-long, a-refusal, sound}
+use Rattle.reader.proofs.Moving.{Lined, StepFrom, a-head, a-cell, a-sum, too-long, a-refusal, step-from}
 use Rattle.reader.proofs.Following.{read-records}
 
 -- ---- the cursor
-after-line : (text : List ℕ) (c : Cursor) → Lined text c → (t : Step) → Sound text c t → Lined text (past t c)
+after-line : (text : List ℕ) (c : Cursor) → Lined text c → (t : Step) → StepFrom text c t → Lined text (past t c)
 after-line text c l (Head w m d) (a-head z f o) = o .line l
 after-line text c l (Cell I d) (a-cell p f m o) = o .line l
 after-line text c l (Sum t d) (a-sum p f m o) = o .line l
@@ -28,10 +28,10 @@ after-line text c l (Refused r) g = l
 pub kept-line : (n : ℕ) (text : List ℕ) → cursorAfter n text .line ≡ lineNumber text (cursorAfter n text .at)
 unfolding cursorAfter afterOf lineNumber countOf
 kept-line zero text = refl
-kept-line (suc n) text = after-line text (cursorAfter n text) (kept-line n text) (nextOf text (cursorAfter n text)) (sound text (cursorAfter n text))
+kept-line (suc n) text = after-line text (cursorAfter n text) (kept-line n text) (nextOf text (cursorAfter n text)) (step-from text (cursorAfter n text))
 
 -- ---- a refusal
-place-line : (text : List ℕ) (c : Cursor) (r : Refusal) → Sound text c (Refused r) → length text ≤ 8192 → r .place ≡ c .line
+place-line : (text : List ℕ) (c : Cursor) (r : Refusal) → StepFrom text c (Refused r) → length text ≤ 8192 → r .place ≡ c .line
 place-line text c r (too-long l) h = absurd (omega arith)
 place-line text c r (a-refusal n) h = refl
 
@@ -40,7 +40,7 @@ module _ (text : List ℕ) (r : Refusal) where
   refused-at k e = record {
     records = k;
     there = e;
-    line = λ h. place-line text (cursorAfter k text) r (subst (Sound text (cursorAfter k text)) e (sound text (cursorAfter k text))) h ∙ kept-line k text;
+    line = λ h. place-line text (cursorAfter k text) r (subst (StepFrom text (cursorAfter k text)) e (step-from text (cursorAfter k text))) h ∙ kept-line k text;
   }
 
   ends-refused : (k : ℕ) (s : Sheet) (t : Step) → nextOf text (cursorAfter k text) ≡ t → EndsWith s t (refusedText r) → RefusedIn text r

@@ -19,7 +19,7 @@ use Rattle.reader.specs.Texts.{built}
 use Rattle.reader.specs.declared.cursor.Cursor.{Cursor}
 use Rattle.reader.specs.declared.cursor.Step.{Step}
 use Rattle.reader.specs.declared.cursor.Step.the-variants.{Head, Cell, Sum, End, Refused}
-use Rattle.reader.proofs.Moving.{Onto, Sound, a-head, a-cell, a-sum, the-end, sound}
+use Rattle.reader.proofs.Moving.{Onto, StepFrom, a-head, a-cell, a-sum, the-end, step-from}
 use Rattle.reader.proofs.Following.{read-records}
 use Rattle.reader.proofs.Building.{Faultless, faultless-append, Passing, length-more, built-passes, add-cell, add-sum}
 
@@ -30,13 +30,13 @@ sums-more n (t ∷ ts) f = (sum-more n t (f .0), sums-more n ts (f .1))
 
 -- ---- the sheet read so far is built of the records, and the cursor keeps its width and counts
 record ReadSoFar (c : Cursor) (s : Sheet) : Type 0 where
-  pub limit : ℕ
-  pub cells : List Interval
-  pub sums : List Record
-  pub is : s ≡ built (c .width) limit cells sums
-  pub passing : Passing (c .width) limit cells sums
-  pub cell-count : c .«cell_count» ≡ length cells
-  pub sum-count : c .«sum_count» ≡ length sums
+  limit : ℕ
+  cells : List Interval
+  sums : List Record
+  is : s ≡ built (c .width) limit cells sums
+  passing : Passing (c .width) limit cells sums
+  cell-count : c .«cell_count» ≡ length cells
+  sum-count : c .«sum_count» ≡ length sums
 
 so-far-passes : {c : Cursor} {s : Sheet} → ReadSoFar c s → testOf s ≡ Done
 so-far-passes {c} k = rw (k .is) (built-passes (c .width) (k .limit) (k .cells) (k .sums) (k .passing))
@@ -106,7 +106,7 @@ module _ (c : Cursor) (s : Sheet) (k : ReadSoFar c s) where
       }
 
 -- ---- after any number of records; where a cursor is past the start, a head was read
-step-read : (text : List ℕ) (c : Cursor) (s : Sheet) → (0 < c .at → ReadSoFar c s) → (t : Step) → Sound text c t → 0 < past t c .at → ReadSoFar (past t c) (grown t s)
+step-read : (text : List ℕ) (c : Cursor) (s : Sheet) → (0 < c .at → ReadSoFar c s) → (t : Step) → StepFrom text c t → 0 < past t c .at → ReadSoFar (past t c) (grown t s)
 step-read text c s k (Head w m d) (a-head z f o) h = head-read text c d w m f o
 step-read text c s k (Cell I d) (a-cell p f l o) h = cell-read c s (k p) text d I f l o
 step-read text c s k (Sum t d) (a-sum p f l o) h = sum-read c s (k p) text d t f l o
@@ -116,7 +116,7 @@ step-read text c s k (Refused r) g h = k h
 read-so-far : (n : ℕ) (text : List ℕ) → 0 < cursorAfter n text .at → ReadSoFar (cursorAfter n text) (sheetAfter n text)
 unfolding cursorAfter afterOf sheetAfter
 read-so-far zero text h = absurd (omega arith)
-read-so-far (suc n) text h = step-read text (cursorAfter n text) (sheetAfter n text) (read-so-far n text) (nextOf text (cursorAfter n text)) (sound text (cursorAfter n text)) h
+read-so-far (suc n) text h = step-read text (cursorAfter n text) (sheetAfter n text) (read-so-far n text) (nextOf text (cursorAfter n text)) (step-from text (cursorAfter n text)) h
 
 -- past the start, the cursor's width and counts are those of the sheet made of the records before it
 pub kept-counts :
@@ -129,7 +129,7 @@ kept-counts n text h =
     (ap (λ (s : Sheet). s .width) (sym (k .is)), k .cell-count ∙ ap (λ (s : Sheet). s .«cell_count») (sym (k .is)), k .sum-count ∙ ap (λ (s : Sheet). s .«sum_count») (sym (k .is)))
 
 -- what the cursor gives, the sheet of the records before it takes
-step-taken : (text : List ℕ) (c : Cursor) (s : Sheet) → (0 < c .at → ReadSoFar c s) → (t : Step) → Sound text c t → Taken s t
+step-taken : (text : List ℕ) (c : Cursor) (s : Sheet) → (0 < c .at → ReadSoFar c s) → (t : Step) → StepFrom text c t → Taken s t
 step-taken text c s k (Head w m d) (a-head z f o) = ap (λ (a : Kept). a .answer) (head-added w m f)
 step-taken text c s k (Cell I d) (a-cell p f l o) = ap (λ (a : Kept). a .answer) (cell-added c s (k p) I f l)
 step-taken text c s k (Sum t d) (a-sum p f l o) = ap (λ (a : Kept). a .answer) (sum-added c s (k p) t f l)
@@ -137,10 +137,10 @@ step-taken text c s k End g = tt
 step-taken text c s k (Refused r) g = tt
 
 pub read-taken : (n : ℕ) (text : List ℕ) → Taken (sheetAfter n text) (nextOf text (cursorAfter n text))
-read-taken n text = step-taken text (cursorAfter n text) (sheetAfter n text) (read-so-far n text) (nextOf text (cursorAfter n text)) (sound text (cursorAfter n text))
+read-taken n text = step-taken text (cursorAfter n text) (sheetAfter n text) (read-so-far n text) (nextOf text (cursorAfter n text)) (step-from text (cursorAfter n text))
 
 -- ---- the whole text: what is read passes the test
-ends-tested : (text : List ℕ) (c : Cursor) (s r : Sheet) → (0 < c .at → ReadSoFar c s) → (t : Step) → Sound text c t → EndsWith s t (record { sheet = r; answer = Done }) → testOf r ≡ Done
+ends-tested : (text : List ℕ) (c : Cursor) (s r : Sheet) → (0 < c .at → ReadSoFar c s) → (t : Step) → StepFrom text c t → EndsWith s t (record { sheet = r; answer = Done }) → testOf r ≡ Done
 ends-tested text c s r k (Head w m d) g e = absurd e
 ends-tested text c s r k (Cell I d) g e = absurd e
 ends-tested text c s r k (Sum t d) g e = absurd e
@@ -151,4 +151,4 @@ pub read-tested : (text : List ℕ) (s : Sheet) → readOf text ≡ record { she
 read-tested text s h =
     let b = subst (ReadBy text) h (read-records text) in
     let c = cursorAfter (b .records) text in
-    ends-tested text c (sheetAfter (b .records) text) s (read-so-far (b .records) text) (nextOf text c) (sound text c) (b .ends)
+    ends-tested text c (sheetAfter (b .records) text) s (read-so-far (b .records) text) (nextOf text c) (step-from text c) (b .ends)

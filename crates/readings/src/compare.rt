@@ -1,7 +1,7 @@
 // The forward sum beside the hardware's addition, on many operand pairs of each kind.
 //
 // Of each pair are compared: the pattern (the hardware's -0 as 0), refusal 9 at place 0 where the hardware's sum is infinite and nowhere
-// else, and the mark: 0 where the hardware lost nothing, else 2 below the smallest normal float (never: such a sum is exact) and 1 above.
+// else, and the mark: 0 where the hardware lost nothing, else 2 below the smallest normal float and 1 above.
 use crate::hardware::Added;
 use crate::hardware::hardware_add;
 use crate::operands::Pair;

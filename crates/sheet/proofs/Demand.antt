@@ -1,5 +1,4 @@
--- Demand 3 of the run: one induction over its steps. Rests on the laws of the narrowing of one sum: no triple is lost, and each end stands in one.
--- Assumes nothing.
+-- Demand 3 of the run, by the induction of Runs. Rests on the laws of the narrowing of one sum: no triple is lost, and each end stands in one.
 use mathlib.Core.Path.{_≡_, refl, sym, ap, subst, _∙_}
 use mathlib.Core.List.{List, [], _∷_}
 use Prim.Native.Nat.{ℕ, zero, suc, _+_, _<_, _≤_}

@@ -12,7 +12,7 @@ use Rattle.sheet.specs.Sheets.{noSum}
 abbrev pub Each : (Record → Type 0) → List Record → Type 0
 Each P sums = (k : ℕ) → k < length sums → P (getD sums k noSum)
 
--- each sum names three of the n cells: refusals 5 and 6 are for every other list
+-- 01: each sum names three cells, all different, of the n that there are (else refusal 5 or 6)
 abbrev pub AllNames : ℕ → List Record → Type 0
 AllNames n sums = Each (Names n) sums
 

@@ -76,7 +76,7 @@ runFrom f e sums (suc more) p box = runBy (runFrom f e sums more (p + 1)) p box 
 abbrev pub run : ℕ → ℕ → List Record → ℕ → Box → Ended
 run f e sums limit first = runFrom f e sums (limit - 1) 1 first
 
--- what it leaves: what is made of its box; under 'no triple' what there was
+-- what a caller gets, made of the box that it leaves; under 'no triple' the caller keeps the old
 abbrev pub leftBy : {A : Type 0} → (Box → A) → A → Ended → A
 leftBy make old (settled p box) = make box
 leftBy make old (stopped p box) = make box
@@ -84,7 +84,9 @@ leftBy make old (noTriple p k) = old
 
 -- the box that the cells then hold: under 'no triple' the one first given
 abbrev pub lastBox : Box → Ended → Box
-lastBox first e = leftBy (λ (box : Box). box) first e
+lastBox first (settled p box) = box
+lastBox first (stopped p box) = box
+lastBox first (noTriple p k) = first
 
 -- 01's number: 0 settled, 12 stopped, 11 no triple
 abbrev pub endNumber : Ended → ℕ
