@@ -21,10 +21,10 @@ use Rattle.ladder.proofs.Ieee.{frac}
 use Rattle.ladder.proofs.Standard.{same-ltb, lt-up, lt-down, exponents, infinity-is, signedBits, signed, ordinal-bits, value-of, read-pattern}
 
 -- ---- equal is neither less nor greater
-abbrev neither : Bool → Bool → Bool
+abbrev pub neither : Bool → Bool → Bool
 neither p q = not p && not q
 
-eqb-neither : (a b : ℕ) → eqb a b ≡ neither (ltb a b) (ltb b a)
+pub eqb-neither : (a b : ℕ) → eqb a b ≡ neither (ltb a b) (ltb b a)
 eqb-neither a b = elim (trichotomy a b) [
   | inl l ↦ simp (lt-ltb _ _ l, ne-eqb _ _ (λ (e : a ≡ b). omega arith))
   | inr r ↦ elim r [
@@ -33,7 +33,7 @@ eqb-neither a b = elim (trichotomy a b) [
   ]
 ]
 
-leb-or : (a b : ℕ) → leb a b ≡ (ltb a b || eqb a b)
+pub leb-or : (a b : ℕ) → leb a b ≡ (ltb a b || eqb a b)
 leb-or a b = elim (trichotomy a b) [
   | inl l ↦ simp (lt-ltb _ _ l, le-leb a b (omega arith))
   | inr r ↦ elim r [
@@ -57,7 +57,7 @@ both-zero a b = elim (trichotomy a 0) [
   ]
 ]
 
-level-neither : (s t : Bool) (a b : ℕ) → I.level s a t b ≡ neither (I.below s a t b) (I.below t b s a)
+pub level-neither : (s t : Bool) (a b : ℕ) → I.level s a t b ≡ neither (I.below s a t b) (I.below t b s a)
 level-neither false false a b = and-true (eqb a b) ∙ eqb-neither a b
 level-neither true true a b = and-true (eqb a b) ∙ eqb-neither a b ∙ and-comm (not (ltb a b)) (not (ltb b a))
 level-neither false true a b = both-zero a b ∙ ap (λ (n : ℕ). not (ltb 0 n)) (add-comm a b)

@@ -70,7 +70,7 @@ units-inf : (F : Format) (s : Bool) (q k : ℕ) → 2 ^ (low F + suc (emax F)) �
 unfolding units
 units-inf F s q k h = cond-no (ltb (q * 2 ^ k) (2 ^ (low F + suc (emax F)))) (odd (suc (prec F)) s q k (low F)) (inf s) (le→nltb (q * 2 ^ k) (2 ^ (low F + suc (emax F))) h)
 
-bits-inf : (F : Format) (s : Bool) → toBits F (inf s) ≡ cond s (top F) 0 + ones F * hid F
+pub bits-inf : (F : Format) (s : Bool) → toBits F (inf s) ≡ cond s (top F) 0 + ones F * hid F
 unfolding toBits
 bits-inf F s = refl
 

@@ -16,6 +16,7 @@ pub mod Threshold
 pub mod Ieee
 pub mod Standard
 pub mod Comparison
+pub mod Numbers
 pub mod Extents
 pub mod Narrowing
 pub mod Extremes
@@ -26,9 +27,11 @@ pub mod Granularity
 pub mod Clamp
 pub mod Neighbours
 pub mod Skips
+pub mod Grid
 pub mod Walk
 pub mod Staircase
 pub mod LeastSum
 pub mod Operand
 pub mod Corners
 pub mod Assembly
+pub mod Trimming

@@ -1,5 +1,6 @@
 -- What is found on the way to the ends of a narrowing, each by what holds of it: the least number with a property, the least operand with a sum of at least b, the corner at which the least x and the greatest a stand in a triple.
 -- Also the images of an interval that this uses, its mirror and what the clamp leaves of it. What the narrowing is, Narrowing says; this is for the functions that find it. Assumes nothing.
+use mathlib.Core.Path.{_≡_}
 use mathlib.Core.Logic.{_↔_}
 use Prim.Native.Nat.{ℕ, _+_, _-_, _*_, _^_, _≤_, _<_, _∣_, max}
 use Rattle.ladder.specs.Magnitude.{magnitude}
@@ -64,6 +65,12 @@ pub record Corner (f e : ℕ) (X A B : Interval) (x a b : ℕ) : Type 0 where
   pub frontier : Frontier f e X A B x a
   pub solution : Solution f e X A B x a b
 
+-- with the operands from x on and those up to a: none that make a sum inside B lie below x' or above a'
+pub record Trimmed (f e : ℕ) (B : Interval) (x a x' a' : ℕ) : Type 0 where
+  pub up : x ≤ x'
+  pub down : a' ≤ a
+  pub kept : (y z : ℕ) → x ≤ y → z ≤ a → In B (sum f e y z) → (x' ≤ y) × (z ≤ a')
+
 -- B lies between the sums of z with y and with the number after y
 pub record Skips (f e : ℕ) (B : Interval) (z y : ℕ) : Type 0 where
   pub short : sum f e z y < B .low
@@ -93,6 +100,17 @@ raised f e k I = record { low = max (I .low) (sign f e + 1 - (k + 1) * 2 ^ f); h
 -- the mirror image: without the values above zero of that size
 abbrev pub lowered : ℕ → ℕ → ℕ → Interval → Interval
 lowered f e k I = reflection f e (raised f e k (reflection f e I))
+
+-- ---- the grid of the sums
+-- the value of r is a multiple of 2^k units
+pub record Multiple (f e k r : ℕ) : Type 0 where
+  pub up : 2 ^ k ∣ above f e r
+  pub down : 2 ^ k ∣ below f e r
+
+-- u is zero, or every value of X and of A is a multiple of u, which is a power of two
+pub data Grid (f e : ℕ) (X A : Interval) (u : ℕ) : Type 0 where
+  free : u ≡ sign f e → Grid f e X A u
+  step : (k : ℕ) → above f e u ≡ 2 ^ k → ((y : ℕ) → In X y → Multiple f e k y) → ((y : ℕ) → In A y → Multiple f e k y) → Grid f e X A u
 
 -- nothing in X or A is too coarse for B: with B above zero, and a value of B that is a multiple of half of 2^k units, no operand lies 2^(k + f) units or more below zero; with B below zero the mirror image; with zero in B nothing is asked
 pub data Fine (f e : ℕ) (X A B : Interval) : Type 0 where
