@@ -68,7 +68,7 @@ module _ (f e : ℕ) (some : 1 ≤ f) where
   module _ (X A : Interval) (u : ℕ) (g : Grid f e X A u) where
     -- two that differ are u or more apart
     sums-apart : (x a y z : ℕ) → In X x → In A a → In X y → In A z → Finite f e (sum f e x a) → Finite f e (sum f e y z) → sum f e x a < sum f e y z
-      → above f e (sum f e x a) + below f e (sum f e y z) + above f e u ≤ above f e (sum f e y z) + below f e (sum f e x a)
+        → above f e (sum f e x a) + below f e (sum f e y z) + above f e u ≤ above f e (sum f e y z) + below f e (sum f e x a)
     sums-apart x a y z xi ai yi zi n m l =
         let t = sum f e x a in
         let c = sum f e y z in
@@ -82,7 +82,7 @@ module _ (f e : ℕ) (some : 1 ≤ f) where
 
     -- so none below a sum is at least b, where that sum less u falls short of b
     pub grid-low : (x a b : ℕ) → In X x → In A a → Finite f e (sum f e x a) → Finite f e b → sum f e (sum f e x a) (mirrored f e u) < b
-      → (y z : ℕ) → In X y → In A z → b ≤ sum f e y z → sum f e y z < sum f e x a → ⊥
+        → (y z : ℕ) → In X y → In A z → b ≤ sum f e y z → sum f e y z < sum f e x a → ⊥
     grid-low x a b xi ai n nb h y z yi zi l v =
         let c = sum f e x a in
         let t = sum f e y z in
@@ -93,7 +93,7 @@ module _ (f e : ℕ) (some : 1 ≤ f) where
 
     -- and none above it is at most b, where that sum and u go past b
     pub grid-high : (x a b : ℕ) → In X x → In A a → Finite f e (sum f e x a) → Finite f e b → b < sum f e (sum f e x a) u
-      → (y z : ℕ) → In X y → In A z → sum f e y z ≤ b → sum f e x a < sum f e y z → ⊥
+        → (y z : ℕ) → In X y → In A z → sum f e y z ≤ b → sum f e x a < sum f e y z → ⊥
     grid-high x a b xi ai n nb h y z yi zi l v =
         let c = sum f e x a in
         let t = sum f e y z in
