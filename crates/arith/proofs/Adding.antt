@@ -16,7 +16,7 @@ use Rattle.arith.specs.Formats.{binary, Sound, isFinite, Finite, ordinal
 use Rattle.arith.proofs.Formats.{sound, finite-fits}
 
 -- the kit's format by its bits
-abbrev here : I.Format → Format
+abbrev pub here : I.Format → Format
 here F = binary (frac F) (exponents F)
 
 sound-here : (F : I.Format) → Sound (here F)

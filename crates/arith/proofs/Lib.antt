@@ -16,6 +16,12 @@ pub mod Narrowings
 pub mod Callers
 pub mod Floating
 pub mod Adding
+pub mod Machines
+pub mod HalfUlps
+pub mod Gridding
+pub mod Guesses
+pub mod KnownEnds
+pub mod Shortcutting
 pub mod Placing
 pub mod Valid
 pub mod Replies

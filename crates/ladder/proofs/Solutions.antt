@@ -1,13 +1,13 @@
--- Triples under a change of the intervals: the operands swapped, all three mirrored, and other intervals that hold the same triples. Assumes nothing.
+-- Triples under a change of the intervals: the operands swapped, all three mirrored, and other intervals that hold the same triples; also the grid of the operands mirrored. Assumes nothing.
 use mathlib.Core.Path.{ap, _∙_}
 use Prim.Native.Nat.{ℕ, _*_, _≤_}
 use native.Mathlib.Omega.{arith}
 use Rattle.ladder.specs.Ordinal.{sign, mirrored, Finite}
 use Rattle.ladder.specs.Solution.{Interval, In, Solution, Bounded}
 use Rattle.ladder.specs.Narrowing.{HasX, HasA, HasB, Spans}
-use Rattle.ladder.specs.Search.{Never, Least, Greatest, Corner, reflection}
+use Rattle.ladder.specs.Search.{Never, Least, Greatest, Corner, reflection, Multiple, Grid, free, step}
 use Rattle.ladder.proofs.Ordinals.{mirror-finite, finite-twice}
-use Rattle.ladder.proofs.Sum.{sum-comm, sum-mirror}
+use Rattle.ladder.proofs.Sum.{sum-comm, above-mirror, below-mirror, sum-mirror}
 use Rattle.ladder.proofs.Extremes.{mirror-greatest}
 
 -- ---- the operands swapped
@@ -101,3 +101,16 @@ module _ (f e : ℕ) (some : 1 ≤ f) (X A B : Interval) (nx : Bounded f e X) (n
   -- the greatest is the mirror image of the least
   pub mirror-b-greatest : (y : ℕ) → Least (HasB f e X' A' B') y → Greatest (HasB f e X A B) (mirrored f e y)
   mirror-b-greatest = mirror-greatest (2 * sign f e) (HasB f e X A B) (HasB f e X' A' B') mirror-b mirrored-b (λ z w. finite-twice f e z (finite-in f e B nb z (w .solution .b-in)))
+
+-- ---- the grid of the mirror image
+module _ (f e : ℕ) (some : 1 ≤ f) where
+  mirrored-multiple : (k r : ℕ) → r ≤ 2 * sign f e → Multiple f e k (mirrored f e r) → Multiple f e k r
+  mirrored-multiple k r l m = record { up = rw (below-mirror f e some r l) at (m .down); down = rw (above-mirror f e some r) at (m .up) }
+
+  mirrored-multiples : (k : ℕ) (I : Interval) → Bounded f e I → ((y : ℕ) → In I y → Multiple f e k y) → (y : ℕ) → In (reflection f e I) y → Multiple f e k y
+  mirrored-multiples k I n m y i =
+      mirrored-multiple k y (finite-twice f e y (finite-in f e (reflection f e I) (mirror-bounded f e I n) y i)) (m (mirrored f e y) (in-reflected f e I n y i))
+
+  pub mirror-grid : (X A : Interval) → Bounded f e X → Bounded f e A → (u : ℕ) → Grid f e X A u → Grid f e (reflection f e X) (reflection f e A) u
+  mirror-grid X A nx na u (free z) = free z
+  mirror-grid X A nx na u (step k z mx ma) = step k z (mirrored-multiples k X nx mx) (mirrored-multiples k A na ma)

@@ -1,0 +1,285 @@
+-- b's ends by a few sums: the sum of the low ends, or a sum below which the grid has none; the mirror image for the high end; and b's own end where a sum makes it. Rests on `ladder`'s LeastSum, Grid and Solutions.
+use mathlib.Core.Path.{_≡_, refl, sym, ap, ap₂, _∙_, subst}
+use mathlib.Core.Logic.{inl, inr}
+use mathlib.Core.Bool.{Bool, true, false, not, cond, _&&_, _||_, true≢false}
+use Prim.Native.Nat.{ℕ, _*_, _≤_, _<_, min, max}
+use native.Mathlib.Nat.{le-refl}
+use native.Mathlib.Omega.{arith}
+use lib.Dec.{leb}
+use borrow.Author.Tests.{le-leb, lt-leb, leb-true, leb-false}
+use Rattle.ladder.specs.Ordinal as L
+use Rattle.ladder.specs.Search as S
+use Rattle.ladder.specs.Solution.{In}
+use Rattle.ladder.proofs.Cases.{le-or-lt}
+use Rattle.ladder.proofs.Ordinals.{ordinal-finite, finite-twice}
+use Rattle.ladder.proofs.Numbers.{finite-number, number-finite}
+use Rattle.ladder.proofs.Sum.{sum-comm, sum-mono, sum-mirror}
+use Rattle.ladder.proofs.LeastSum.{lows-least, floor-least}
+use Rattle.ladder.proofs.Grid.{grid-low}
+use Rattle.ladder.proofs.Solutions.{finite-in, in-reflected, mirror-bounded, mirror-grid, mirror-b, mirror-b-greatest}
+use Rattle.arith.specs.declared.format.Format.{Format}
+use Rattle.arith.specs.declared.range.Range.{Range}
+use Rattle.arith.specs.declared.interval.Interval.{Interval}
+use Rattle.arith.specs.declared.guess.Pair.{Pair}
+use Rattle.arith.specs.declared.«end».End.{End}
+use Rattle.arith.specs.Formats.{Sound, isFinite, Finite, ordinal, sum, mirrored}
+use Rattle.arith.specs.Intervals.{Bounded, endsFinite, rangeOf, span, reflected}
+use Rattle.arith.specs.Machines.{machine, isNumber, Adds, Negates}
+use Rattle.arith.specs.Searches.{HasB}
+use Rattle.arith.specs.Shortcuts.{xLeft, aLeft, CornersOf, Known, at-low, at-sum, at-gap, KnownEnd, LowEnd, HighEnd, Reached}
+use Rattle.arith.proofs.Formats.{both}
+use Rattle.arith.proofs.Intervals.{ends-both, range-ends}
+use Rattle.arith.proofs.Machines.{number-of, chosen}
+
+-- ---- one of two
+module _ (F : Format) where
+  pub lesser-is : (p q r : ℕ) → r ≡ cond (leb (ordinal F p) (ordinal F q)) p q → ordinal F r ≡ min (ordinal F p) (ordinal F q)
+  lesser-is p q r e = elim (le-or-lt (ordinal F p) (ordinal F q)) [
+    | inl l ↦ let z : r ≡ p = simp (le-leb _ _ l) at e in omega (arith, ap (ordinal F) z)
+    | inr l ↦ let z : r ≡ q = simp (lt-leb _ _ l) at e in omega (arith, ap (ordinal F) z)
+  ]
+
+  pub greater-is : (p q r : ℕ) → r ≡ cond (leb (ordinal F p) (ordinal F q)) q p → ordinal F r ≡ max (ordinal F p) (ordinal F q)
+  greater-is p q r e = elim (le-or-lt (ordinal F p) (ordinal F q)) [
+    | inl l ↦ let z : r ≡ q = simp (le-leb _ _ l) at e in omega (arith, ap (ordinal F) z)
+    | inr l ↦ let z : r ≡ p = simp (lt-leb _ _ l) at e in omega (arith, ap (ordinal F) z)
+  ]
+
+  finite-at : (p : ℕ) → isFinite F p ≡ true → Finite F (ordinal F p)
+  finite-at p h = ordinal-finite (F .fraction) (F .exponent) p h
+
+  pub ends-of : (i : Interval) → isFinite F (i .low) ≡ true → isFinite F (i .high) ≡ true → endsFinite F i ≡ true
+  unfolding endsFinite
+  ends-of i l h = ap₂ _&&_ l h
+
+  -- a number whose ordinal lies between finite ones
+  between : (p : ℕ) → isNumber F p ≡ true → (l h : ℕ) → Finite F l → Finite F h → l ≤ ordinal F p → ordinal F p ≤ h → isFinite F p ≡ true
+  between p n l h nl nh i j = number-finite (F .fraction) (F .exponent) p n (record { low = omega arith; high = omega arith })
+
+  -- a number inside an interval
+  pub inside-finite : (i : Interval) → endsFinite F i ≡ true → (p : ℕ) → isNumber F p ≡ true → In (span (rangeOf F i)) (ordinal F p) → isFinite F p ≡ true
+  inside-finite i h p n w =
+      let e = ends-both F i h in
+      between p n (ordinal F (i .low)) (ordinal F (i .high)) (finite-at (i .low) (e .0)) (finite-at (i .high) (e .1)) (w .low) (w .high)
+
+  -- ---- an end that a sum shows
+  -- what least_end asks
+  abbrev pub Ready : ℕ → ℕ → ℕ → ℕ → Type 0
+  Ready low k u b = (isNumber F low ≡ true) × (isFinite F k ≡ true) × (isFinite F u ≡ true) × (isFinite F b ≡ true) × (ordinal F low ≤ ordinal F k) × (ordinal F b ≤ ordinal F k)
+
+  module _ (low k u b : ℕ) where
+    settled : (known : Bool) (v w : ℕ) → known ≡ true → w ≡ cond known v b → isFinite F v ≡ true → Known F low k u b v → KnownEnd F low k u b (record { b = w; known = known })
+    settled true v w t e n s = record { finite = subst (λ (p : ℕ). isFinite F p ≡ true) (sym e) n; known = λ z. subst (Known F low k u b) (sym e) s; own = λ z. absurd (true≢false z) }
+    settled false v w t e n s = absurd (true≢false (sym t))
+
+    unsettled : (known : Bool) (v w : ℕ) → known ≡ false → w ≡ cond known v b → isFinite F b ≡ true → KnownEnd F low k u b (record { b = w; known = known })
+    unsettled true v w t e n = absurd (true≢false t)
+    unsettled false v w t e n = record { finite = subst (λ (p : ℕ). isFinite F p ≡ true) (sym e) n; known = λ z. absurd (true≢false (sym z)); own = λ z. e }
+
+    module _ (nl : isNumber F low ≡ true) (nk : isFinite F k ≡ true) (nb : isFinite F b ≡ true) (lk : ordinal F low ≤ ordinal F k) (bk : ordinal F b ≤ ordinal F k) where
+      -- the greater of m and low, where m is between b and k
+      greater-end : (m v : ℕ) → isNumber F m ≡ true → ordinal F b ≤ ordinal F m → ordinal F m ≤ ordinal F k → v ≡ cond (leb (ordinal F m) (ordinal F low)) low m → (isFinite F v ≡ true) × (ordinal F v ≡ max (ordinal F m) (ordinal F low))
+      greater-end m v n l h e =
+          let z = greater-is m low v e in
+          (between v (chosen (λ (p : ℕ). isNumber F p ≡ true) (leb (ordinal F m) (ordinal F low)) v low m e nl n) (ordinal F b) (ordinal F k) (finite-at b nb) (finite-at k nk) (omega arith) (omega arith), z)
+
+      shown : (short near level known : Bool) (m v w : ℕ) → short ≡ leb (ordinal F b) (sum F (ordinal F k) (mirrored F (ordinal F u))) → near ≡ leb (ordinal F b) (ordinal F low) → level ≡ leb (ordinal F k) (ordinal F b)
+          → known ≡ ((near || level) || not short) → m ≡ cond (not short) k b → v ≡ cond (leb (ordinal F m) (ordinal F low)) low m → w ≡ cond known v b → KnownEnd F low k u b (record { b = w; known = known })
+      shown false near level known m v w p q r s t e d =
+          let g = greater-end m v (subst (λ (i : ℕ). isNumber F i ≡ true) (sym t) (number-of F k nk)) (omega (arith, ap (ordinal F) t)) (omega (arith, ap (ordinal F) t)) e in
+          settled known v w (s ∙ or-true near level) d (g .0) (at-gap (leb-false _ _ (sym p)) (omega (arith, g .1, ap (ordinal F) t)))
+        where
+          or-true : (i j : Bool) → ((i || j) || true) ≡ true
+          or-true true j = refl
+          or-true false true = refl
+          or-true false false = refl
+      shown true true level known m v w p q r s t e d =
+          let g = greater-end m v (subst (λ (i : ℕ). isNumber F i ≡ true) (sym t) (number-of F b nb)) (omega (arith, ap (ordinal F) t)) (omega (arith, ap (ordinal F) t)) e in
+          let l = leb-true (ordinal F b) (ordinal F low) (sym q) in
+          settled known v w s d (g .0) (at-low l (omega (arith, g .1, ap (ordinal F) t)))
+      shown true false true known m v w p q r s t e d =
+          let g = greater-end m v (subst (λ (i : ℕ). isNumber F i ≡ true) (sym t) (number-of F b nb)) (omega (arith, ap (ordinal F) t)) (omega (arith, ap (ordinal F) t)) e in
+          let l = leb-true (ordinal F k) (ordinal F b) (sym r) in
+          let n = leb-false (ordinal F b) (ordinal F low) (sym q) in
+          settled known v w s d (g .0) (at-sum l (omega (arith, g .1, ap (ordinal F) t)))
+      shown true false false known m v w p q r s t e d = unsettled known v w s d nb
+
+      -- as the code has it: s is k less u
+      pub known-end : (o s : ℕ) → Negates F u o → Adds F k o s → (short near level one known : Bool) (m v w : ℕ) → short ≡ leb (ordinal F b) (ordinal F s) → near ≡ leb (ordinal F b) (ordinal F low)
+          → level ≡ leb (ordinal F k) (ordinal F b) → one ≡ (near || level) → known ≡ (one || not short) → m ≡ cond (not short) k b → v ≡ cond (leb (ordinal F m) (ordinal F low)) low m → w ≡ cond known v b
+          → KnownEnd F low k u b (record { b = w; known = known })
+      known-end o s d a short near level one known m v w p q r i j =
+          shown short near level known m v w (p ∙ ap (leb (ordinal F b)) (a .is nk ∙ ap (sum F (ordinal F k)) (d .is))) q r (j ∙ ap (λ (t : Bool). t || not short) i)
+
+  -- ---- a sum that makes b
+  -- what is clipped into an interval lies inside it
+  pub clipped : (i : Interval) (d g y : ℕ) → ordinal F (i .low) ≤ ordinal F (i .high) → g ≡ cond (leb (ordinal F d) (ordinal F (i .low))) (i .low) d → y ≡ cond (leb (ordinal F g) (ordinal F (i .high))) g (i .high)
+      → In (span (rangeOf F i)) (ordinal F y)
+  clipped i d g y l p q =
+      let a = greater-is d (i .low) g p in
+      let b = lesser-is g (i .high) y q in
+      record { low = omega arith; high = omega arith }
+
+  pub made : (i : Interval) (c b y s : ℕ) (no-more no-less r : Bool) → In (span (rangeOf F i)) (ordinal F y) → ordinal F s ≡ sum F (ordinal F y) (ordinal F c) → no-more ≡ leb (ordinal F s) (ordinal F b)
+      → no-less ≡ leb (ordinal F b) (ordinal F s) → r ≡ (no-more && no-less) → r ≡ true → Reached F i (record { low = c; high = c }) b
+  made i c b y s no-more no-less r w e p q d t =
+      let h = both no-more no-less (sym d ∙ t) in
+      let l = leb-true (ordinal F s) (ordinal F b) (sym p ∙ h .0) in
+      let g = leb-true (ordinal F b) (ordinal F s) (sym q ∙ h .1) in
+      record { y = ordinal F y; z = ordinal F c; x-in = w; a-in = record { low = le-refl _; high = le-refl _ }; is = omega arith }
+
+  -- by the low end of one, which lies in it
+  pub low-made : (i j : Interval) (b : ℕ) → ordinal F (j .low) ≤ ordinal F (j .high) → Reached F i (record { low = j .low; high = j .low }) b → Reached F i j b
+  low-made i j b l r = record { y = r .y; z = r .z; x-in = r .x-in; a-in = record { low = r .a-in .low; high = omega (arith, r .a-in .high) }; is = r .is }
+
+  pub swapped : (i j : Interval) (b : ℕ) → Reached F i j b → Reached F j i b
+  swapped i j b r = record { y = r .z; z = r .y; x-in = r .a-in; a-in = r .x-in; is = sum-comm (F .fraction) (F .exponent) (r .z) (r .y) ∙ r .is }
+
+-- ---- the ends of the b in a triple
+module _ (F : Format) (ok : Sound F) where
+  abbrev f : ℕ
+  f = F .fraction
+
+  abbrev e : ℕ
+  e = F .exponent
+
+  module _ (X A B : Range) (low k u b : ℕ) (is : ordinal F low ≡ sum F (X .low) (A .low)) (at : ordinal F b ≡ B .low) (h : HasB F X A B (ordinal F k)) where
+    -- the sum of the low ends and b's low end are no more than a sum in a triple
+    pub lows-below : (ordinal F low ≤ ordinal F k) × (ordinal F b ≤ ordinal F k)
+    lows-below =
+        let r = h .solution in
+        (omega (arith, sum-mono f e (ok .some) (X .low) (h .x) (A .low) (h .a) (r .x-in .low) (r .a-in .low), r .is), omega (arith, r .b-in .low))
+
+    -- an end that is known is the least
+    pub known-least : Bounded F B → S.Grid f e (span X) (span A) (ordinal F u) → (v : ℕ) → Known F low k u b v → S.Least (HasB F X A B) (ordinal F v)
+    known-least n g v (at-low l z) = rw (z) (lows-least f e (ok .some) (span X) (span A) (span B) (ordinal F low) is (ordinal F k) h (omega arith))
+    known-least n g v (at-sum l z) = rw (z) (floor-least f e (span X) (span A) (span B) (ordinal F k) (omega arith) h)
+    known-least n g v (at-gap l z) =
+        rw (z)
+        (record {
+          holds = h;
+          least = λ y w. elim (le-or-lt (ordinal F k) y) [ inl i ↦ i | inr i ↦ absurd (nearer y w i) ];
+        })
+      where
+        nearer : (y : ℕ) → HasB F X A B y → y < ordinal F k → ⊥
+        nearer y w i =
+            let r = h .solution in
+            let t = w .solution in
+            grid-low f e (ok .some) (span X) (span A) (ordinal F u) g (h .x) (h .a) (B .low) (r .x-in) (r .a-in)
+            (rw (r .is) (finite-in f e (span B) n (ordinal F k) (r .b-in)))
+            (n .low)
+            (rw (r .is, ← at) l)
+            (w .x) (w .a) (t .x-in) (t .a-in) (rw (t .is) (t .b-in .low)) (rw (t .is, r .is) i)
+
+  module _ (p q : Pair) (u : ℕ) (b : Interval) (c : CornersOf F p q u b) where
+    abbrev X : Range
+    X = xLeft F p q
+
+    abbrev A : Range
+    A = aLeft F p q
+
+    abbrev B : Range
+    B = rangeOf F b
+
+    ends : Bounded F B
+    ends = range-ends F b B refl (c .finite)
+
+    -- both corners stand in triples of what is left
+    first-in : HasB F X A B (ordinal F (p .b))
+    first-in = let d = c .corners in record {
+      x = ordinal F (p .x);
+      a = ordinal F (p .a);
+      solution = record {
+        x-in = record { low = le-refl _; high = d .x-order };
+        a-in = record { low = d .a-order; high = le-refl _ };
+        b-in = d .first;
+        is = sym (c .first-is);
+      };
+    }
+
+    second-in : HasB F X A B (ordinal F (q .b))
+    second-in = let d = c .corners in record {
+      x = ordinal F (q .a);
+      a = ordinal F (q .x);
+      solution = record {
+        x-in = record { low = d .x-order; high = le-refl _ };
+        a-in = record { low = le-refl _; high = d .a-order };
+        b-in = d .second;
+        is = sum-comm f e (ordinal F (q .a)) (ordinal F (q .x)) ∙ sym (c .second-is);
+      };
+    }
+
+    -- and so does the one chosen, which is finite
+    pub corner-in : (t : Bool) (k : ℕ) → k ≡ cond t (p .b) (q .b) → HasB F X A B (ordinal F k)
+    corner-in t k z = chosen (λ (r : ℕ). HasB F X A B (ordinal F r)) t k (p .b) (q .b) z first-in second-in
+
+    pub corner-finite : (t : Bool) (k : ℕ) → k ≡ cond t (p .b) (q .b) → isFinite F k ≡ true
+    corner-finite t k z = inside-finite F b (c .finite) k (chosen (λ (r : ℕ). isNumber F r ≡ true) t k (p .b) (q .b) z (c .first-number) (c .second-number)) (corner-in t k z .solution .b-in)
+
+    -- ---- the low end
+    pub low-ready : (t : Bool) (low k : ℕ) → Adds F (p .x) (q .x) low → k ≡ cond t (p .b) (q .b) → Ready F low k u (b .low)
+    low-ready t low k s z =
+        let o = lows-below X A B low k u (b .low) (s .is (c .first .0)) refl (corner-in t k z) in
+        (s .number, corner-finite t k z, c .u-finite, ends-both F b (c .finite) .0, o .0, o .1)
+
+    pub low-end : (t : Bool) (low k : ℕ) (r : End) → Adds F (p .x) (q .x) low → k ≡ cond t (p .b) (q .b) → KnownEnd F low k u (b .low) r → LowEnd F p q b r
+    low-end t low k r s z w = record {
+      finite = w .finite;
+      known = λ n. known-least X A B low k u (b .low) (s .is (c .first .0)) refl (corner-in t k z) ends (c .grid) (r .b) (w .known n);
+      own = λ n. ap (ordinal F) (w .own n);
+    }
+
+    -- ---- the high end, in the mirror
+    module _ (t : Bool) (high g low k v : ℕ) (s : Adds F (q .a) (p .a) high) (z : g ≡ cond t (p .b) (q .b)) (nl : Negates F high low) (nk : Negates F g k) (nv : Negates F (b .high) v) where
+      x-ends : Bounded F X
+      x-ends = record { low = finite-at F (p .x) (c .first .0); high = finite-at F (q .a) (c .second .1) }
+
+      a-ends : Bounded F A
+      a-ends = record { low = finite-at F (q .x) (c .second .0); high = finite-at F (p .a) (c .first .1) }
+
+      low-is : ordinal F low ≡ sum F (mirrored F (ordinal F (q .a))) (mirrored F (ordinal F (p .a)))
+      low-is =
+          nl .is ∙ ap (mirrored F) (s .is (c .second .1))
+          ∙ sym (sum-mirror f e (ok .some) (ordinal F (q .a)) (ordinal F (p .a)) (finite-twice f e _ (x-ends .high)) (finite-twice f e _ (a-ends .high)))
+
+      mirrored-in : HasB F (reflected F X) (reflected F A) (reflected F B) (ordinal F k)
+      mirrored-in = rw (nk .is) (mirror-b f e (ok .some) (span X) (span A) (span B) x-ends a-ends ends (ordinal F g) (corner-in t g z))
+
+      pub high-ready : Ready F low k u v
+      high-ready =
+          let o = lows-below (reflected F X) (reflected F A) (reflected F B) low k u v low-is (nv .is) mirrored-in in
+          (nl .number, nk .finite (corner-finite t g z), c .u-finite, nv .finite (ends-both F b (c .finite) .1), o .0, o .1)
+
+      pub high-end : (r : End) (w : ℕ) → KnownEnd F low k u v r → Negates F (r .b) w → HighEnd F p q b (record { b = w; known = r .known })
+      high-end r w d nw = record {
+        finite = nw .finite (d .finite);
+        known = λ n. rw (nw .is)
+            (mirror-b-greatest f e (ok .some) (span X) (span A) (span B) x-ends a-ends ends (ordinal F (r .b))
+            (known-least (reflected F X) (reflected F A) (reflected F B) low k u v low-is (nv .is) mirrored-in (mirror-bounded f e (span B) ends) (mirror-grid f e (ok .some) (span X) (span A) x-ends a-ends (ordinal F u) (c .grid)) (r .b) (d .known n)));
+        own = λ n. omega (arith, nw .is, ap (ordinal F) (d .own n), nv .is, finite-twice f e (ordinal F (b .high)) (ends .high));
+      }
+
+  -- ---- a sum that makes b, in the mirror
+  -- r runs from the opposite of i's high end to that of its low end
+  abbrev pub Mirrors : Interval → Interval → Type 0
+  Mirrors i r = (endsFinite F r ≡ true) × (ordinal F (r .low) ≡ mirrored F (ordinal F (i .high))) × (ordinal F (r .high) ≡ mirrored F (ordinal F (i .low)))
+
+  module _ (i r : Interval) (n : endsFinite F i ≡ true) (m : Mirrors i r) where
+    pub mirror-order : ordinal F (i .low) ≤ ordinal F (i .high) → ordinal F (r .low) ≤ ordinal F (r .high)
+    mirror-order l = omega (arith, m .1, m .2)
+
+    mirror-in : (y : ℕ) → In (span (rangeOf F r)) y → In (span (rangeOf F i)) (mirrored F y)
+    mirror-in y w = in-reflected f e (span (rangeOf F i)) (range-ends F i (rangeOf F i) refl n) y (record { low = omega (arith, m .1); high = omega (arith, m .2) })
+
+    mirror-twice : (y : ℕ) → In (span (rangeOf F r)) y → y ≤ 2 * L.sign f e
+    mirror-twice y w = finite-twice f e y (finite-in f e (span (rangeOf F r)) (range-ends F r (rangeOf F r) refl (m .0)) y w)
+
+  pub mirror-made : (i j r s : Interval) (b v : ℕ) → endsFinite F i ≡ true → endsFinite F j ≡ true → isFinite F b ≡ true → Mirrors i r → Mirrors j s → Negates F b v → Reached F r s v → Reached F i j b
+  mirror-made i j r s b v ni nj nb mr ms nv t = record {
+    y = mirrored F (t .y);
+    z = mirrored F (t .z);
+    x-in = mirror-in i r ni mr (t .y) (t .x-in);
+    a-in = mirror-in j s nj ms (t .z) (t .a-in);
+    is = sum-mirror f e (ok .some) (t .y) (t .z) (mirror-twice i r ni mr (t .y) (t .x-in)) (mirror-twice j s nj ms (t .z) (t .a-in))
+        ∙ omega (arith, t .is, nv .is, finite-twice f e (ordinal F b) (finite-at F b nb));
+  }

@@ -1,0 +1,164 @@
+-- The narrowing by a few sums: what two trims show of it, and the answer by b's ends. Rests on `ladder`'s Trimming, Grid and LeastSum.
+use mathlib.Core.Path.{_≡_, refl, ap, subst}
+use mathlib.Core.Logic.{_⊎_, inl, inr}
+use mathlib.Core.Bool.{Bool, true, false, not, cond, _&&_, true≢false}
+use Prim.Native.Nat.{ℕ, _≤_, _<_}
+use native.Mathlib.Nat.{le-refl}
+use native.Mathlib.Omega.{arith}
+use lib.Dec.{leb}
+use borrow.Author.Tests.{leb-true, leb-false}
+use Rattle.ladder.specs.Solution.{Interval, In}
+use Rattle.ladder.specs.Narrowing as N
+use Rattle.ladder.specs.Search as S
+use Rattle.ladder.proofs.Ordinals.{ordinal-finite}
+use Rattle.ladder.proofs.Sum.{sum-comm}
+use Rattle.ladder.proofs.Assembly.{never-x}
+use Rattle.ladder.proofs.Extremes.{spans-of}
+use Rattle.ladder.proofs.LeastSum.{floor-least}
+use Rattle.ladder.proofs.Grid.{grid-low, grid-high}
+use Rattle.ladder.proofs.Trimming.{trimmed-never-x, trimmed-never-a, trimmed-none, trimmed-ends}
+use Rattle.arith.specs.declared.format.Format.{Format}
+use Rattle.arith.specs.declared.interval.Interval as I
+use Rattle.arith.specs.declared.guess.Pair.{Pair}
+use Rattle.arith.specs.declared.«end».End.{End}
+use Rattle.arith.specs.declared.narrow.Narrowed.{Narrowed}
+use Rattle.arith.specs.declared.narrow.Narrowed.the-variants as Narrowed
+use Rattle.arith.specs.Refusals.{refusal}
+use Rattle.arith.specs.Formats.{Sound, isFinite, Finite, ordinal, sum, mirrored}
+use Rattle.arith.specs.Intervals.{endsFinite, isOrdered, rangeOf, intervalOf, span}
+use Rattle.arith.specs.Narrows.{narrowing, narrowAnswer, narrowFinite, narrowIn}
+use Rattle.arith.specs.Searches.{HasB}
+use Rattle.arith.specs.Shortcuts.{Trims, Trimmings, xLeft, aLeft, leftX, leftA, Gridded, Passes, over, under, Corners, CornersOf, LowEnd, HighEnd, Reached}
+use Rattle.arith.proofs.Formats.{both}
+use Rattle.arith.proofs.Intervals.{ends-both}
+use Rattle.arith.proofs.Refusing.{passed}
+
+-- a test of two parts that fails
+pub not-both : (p q : Bool) → (p && q) ≡ false → (p ≡ false) ⊎ (q ≡ false)
+not-both true true e = absurd (true≢false e)
+not-both true false e = inr e
+not-both false q e = inl e
+
+module _ (F : Format) (ok : Sound F) (x a b : I.Interval) where
+  abbrev f : ℕ
+  f = F .fraction
+
+  abbrev e : ℕ
+  e = F .exponent
+
+  abbrev X : Interval
+  X = span (rangeOf F x)
+
+  abbrev A : Interval
+  A = span (rangeOf F a)
+
+  abbrev B : Interval
+  B = span (rangeOf F b)
+
+  -- ---- the answer of finite intervals in order
+  module _ (n : (endsFinite F x ≡ true) × (endsFinite F a ≡ true) × (endsFinite F b ≡ true)) (o : (isOrdered (rangeOf F x) ≡ true) × (isOrdered (rangeOf F a) ≡ true) × (isOrdered (rangeOf F b) ≡ true)) where
+    in-format : (r : Narrowed) → r ≡ narrowAnswer F (narrowing F (rangeOf F x) (rangeOf F a) (rangeOf F b)) → r ≡ narrowIn F x a b
+    unfolding narrowIn narrowFinite
+    in-format r h =
+        passed Narrowed.Refused 2 (endsFinite F x) _ (n .0)
+        (passed Narrowed.Refused 2 (endsFinite F a) _ (n .1)
+        (passed Narrowed.Refused 2 (endsFinite F b) _ (n .2)
+        (passed Narrowed.Refused 3 (isOrdered (rangeOf F x)) _ (o .0)
+        (passed Narrowed.Refused 3 (isOrdered (rangeOf F a)) _ (o .1)
+        (passed Narrowed.Refused 3 (isOrdered (rangeOf F b)) _ (o .2) h)))))
+
+    pub none-answer : N.none ≡ narrowing F (rangeOf F x) (rangeOf F a) (rangeOf F b) → Narrowed.Refused (refusal 11) ≡ narrowIn F x a b
+    none-answer h = in-format (Narrowed.Refused (refusal 11)) (ap (narrowAnswer F) h)
+
+    order-of : (i : I.Interval) → isOrdered (rangeOf F i) ≡ true → ordinal F (i .low) ≤ ordinal F (i .high)
+    unfolding isOrdered
+    order-of i h = leb-true _ _ h
+
+  module _ (p q : Pair) (m : Trimmings F x a b p q) (sp : p .sure ≡ true) (sq : q .sure ≡ true) where
+    abbrev tp : S.Trimmed f e B (X .low) (A .high) (ordinal F (p .x)) (ordinal F (p .a))
+    tp = m .first .trimmed sp
+
+    abbrev tq : S.Trimmed f e B (A .low) (X .high) (ordinal F (q .x)) (ordinal F (q .a))
+    tq = m .second .trimmed sq
+
+    -- ---- there is no triple
+    pub disorder-none : (leb (ordinal F (p .x)) (ordinal F (q .a)) && leb (ordinal F (q .x)) (ordinal F (p .a))) ≡ false → N.none ≡ narrowing F (rangeOf F x) (rangeOf F a) (rangeOf F b)
+    disorder-none h = elim (not-both (leb (ordinal F (p .x)) (ordinal F (q .a))) (leb (ordinal F (q .x)) (ordinal F (p .a))) h) [
+      | inl g ↦ never-x f e X A B (trimmed-never-x f e (ok .some) X A B _ _ _ _ tp tq (leb-false _ _ g))
+      | inr g ↦ never-x f e X A B (trimmed-never-a f e (ok .some) X A B _ _ _ _ tp tq (leb-false _ _ g))
+    ]
+
+    pub passes-none : (u s y z : ℕ) → Gridded F p q u → endsFinite F b ≡ true → In (span (xLeft F p q)) y → In (span (aLeft F p q)) z → ordinal F s ≡ sum F y z → Passes F s u b → N.none ≡ narrowing F (rangeOf F x) (rangeOf F a) (rangeOf F b)
+    passes-none u s y z g n i j h w =
+        let k = ends-both F b n in
+        let nl = ordinal-finite f e (b .low) (k .0) in
+        let nh = ordinal-finite f e (b .high) (k .1) in
+        let X' = span (xLeft F p q) in
+        let A' = span (aLeft F p q) in
+        let v = ordinal F u in
+        trimmed-none f e (ok .some) X A B (ordinal F (p .x)) (ordinal F (p .a)) (ordinal F (q .x)) (ordinal F (q .a)) tp tq (λ t c it ic r. elim w [
+          | over fs l d ↦ grid-low f e (ok .some) X' A' v g y z (ordinal F (b .low)) i j (subst (Finite F) h fs) nl (subst (λ (i : ℕ). sum F i (mirrored F v) < ordinal F (b .low)) h d) t c it ic (r .low) (omega (arith, r .high))
+          | under fs l d ↦ grid-high f e (ok .some) X' A' v g y z (ordinal F (b .high)) i j (subst (Finite F) h fs) nh (subst (λ (i : ℕ). ordinal F (b .high) < sum F i v) h d) t c it ic (r .high) (omega (arith, r .low))
+        ])
+
+    -- ---- or the ends are those of the triples
+    module _ (c : Corners F b p q) where
+      pub corners-ends : (I' : Interval) → N.Spans (HasB F (xLeft F p q) (aLeft F p q) (rangeOf F b)) I' → N.ends (span (xLeft F p q)) (span (aLeft F p q)) I' ≡ narrowing F (rangeOf F x) (rangeOf F a) (rangeOf F b)
+      corners-ends I' s = trimmed-ends f e (ok .some) X A B _ _ _ _ tp tq (c .x-order) (c .a-order) (ordinal F (p .b)) (ordinal F (q .b)) (m .first .is) (c .first) (m .second .is) (c .second) I' s
+
+-- ---- b's own ends
+module _ (F : Format) (b : I.Interval) (p q : Pair) (o : ordinal F (b .low) ≤ ordinal F (b .high)) where
+  reached-b : (v : ℕ) → ordinal F (b .low) ≤ ordinal F v → ordinal F v ≤ ordinal F (b .high) → Reached F (leftX p q) (leftA p q) v → HasB F (xLeft F p q) (aLeft F p q) (rangeOf F b) (ordinal F v)
+  reached-b v l h r = record { x = r .y; a = r .z; solution = record { x-in = r .x-in; a-in = r .a-in; b-in = record { low = l; high = h }; is = r .is } }
+
+  pub low-least : (t : End) → LowEnd F p q b t → (t .known ≡ false → Reached F (leftX p q) (leftA p q) (b .low)) → S.Least (HasB F (xLeft F p q) (aLeft F p q) (rangeOf F b)) (ordinal F (t .b))
+  low-least t l w = go (t .known) (l .known) (λ h. (l .own h, w h))
+    where
+      P : ℕ → Type 0
+      P = HasB F (xLeft F p q) (aLeft F p q) (rangeOf F b)
+
+      go : (k : Bool) → (k ≡ true → S.Least P (ordinal F (t .b))) → (k ≡ false → (ordinal F (t .b) ≡ ordinal F (b .low)) × Reached F (leftX p q) (leftA p q) (b .low)) → S.Least P (ordinal F (t .b))
+      go true g h = g refl
+      go false g h = let r = h refl in rw (r .0) (record { holds = reached-b (b .low) (le-refl _) o (r .1); least = λ y v. v .solution .b-in .low })
+
+  pub high-greatest : (t : End) → HighEnd F p q b t → (t .known ≡ false → Reached F (leftX p q) (leftA p q) (b .high)) → S.Greatest (HasB F (xLeft F p q) (aLeft F p q) (rangeOf F b)) (ordinal F (t .b))
+  high-greatest t l w = go (t .known) (l .known) (λ h. (l .own h, w h))
+    where
+      P : ℕ → Type 0
+      P = HasB F (xLeft F p q) (aLeft F p q) (rangeOf F b)
+
+      go : (k : Bool) → (k ≡ true → S.Greatest P (ordinal F (t .b))) → (k ≡ false → (ordinal F (t .b) ≡ ordinal F (b .high)) × Reached F (leftX p q) (leftA p q) (b .high)) → S.Greatest P (ordinal F (t .b))
+      go true g h = g refl
+      go false g h = let r = h refl in rw (r .0) (record { holds = reached-b (b .high) o (le-refl _) (r .1); most = λ y v. v .solution .b-in .high })
+
+-- ---- what the trims take
+module _ (F : Format) (ok : Sound F) (x a b : I.Interval) (n : (endsFinite F x ≡ true) × (endsFinite F a ≡ true) × (endsFinite F b ≡ true)) (o : (isOrdered (rangeOf F x) ≡ true) × (isOrdered (rangeOf F a) ≡ true) × (isOrdered (rangeOf F b) ≡ true)) where
+  pub trim-takes : (h : I.Interval) → endsFinite F h ≡ true
+      → ((isFinite F (x .low) ≡ true) × (isFinite F (a .high) ≡ true) × (endsFinite F b ≡ true) × (endsFinite F h ≡ true) × (ordinal F (b .low) ≤ ordinal F (b .high)))
+      × ((isFinite F (a .low) ≡ true) × (isFinite F (x .high) ≡ true) × (endsFinite F b ≡ true) × (endsFinite F h ≡ true) × (ordinal F (b .low) ≤ ordinal F (b .high)))
+  trim-takes h t = let i = ends-both F x (n .0) in let j = ends-both F a (n .1) in let l = order-of F ok x a b n o b (o .2) in ((i .0, j .1, n .2, t, l), (j .0, i .1, n .2, t, l))
+
+-- ---- the answer by the corners and b's ends
+module _ (F : Format) (ok : Sound F) (x a b : I.Interval) (n : (endsFinite F x ≡ true) × (endsFinite F a ≡ true) × (endsFinite F b ≡ true)) (o : (isOrdered (rangeOf F x) ≡ true) × (isOrdered (rangeOf F a) ≡ true) × (isOrdered (rangeOf F b) ≡ true)) (p q : Pair) (m : Trimmings F x a b p q) where
+  pub corners-of : (u : ℕ) → isFinite F u ≡ true → Gridded F p q u → Corners F b p q → CornersOf F p q u b
+  corners-of u t g c = record {
+    first = (m .first .x-finite, m .first .a-finite);
+    second = (m .second .x-finite, m .second .a-finite);
+    first-number = m .first .number;
+    second-number = m .second .number;
+    first-is = m .first .is;
+    second-is = m .second .is;
+    finite = n .2;
+    u-finite = t;
+    grid = g;
+    corners = c;
+  }
+
+  pub ends-answer : (p .sure ≡ true) × (q .sure ≡ true) × Corners F b p q → (l h : End) → LowEnd F p q b l → HighEnd F p q b h
+      → (l .known ≡ false → Reached F (leftX p q) (leftA p q) (b .low)) × (h .known ≡ false → Reached F (leftX p q) (leftA p q) (b .high))
+      → (i j k : I.Interval) → i ≡ intervalOf F (xLeft F p q) → j ≡ intervalOf F (aLeft F p q) → k ≡ intervalOf F (record { low = ordinal F (l .b); high = ordinal F (h .b) }) → Narrowed.Ends i j k ≡ narrowIn F x a b
+  ends-answer s l h lo hi w i j k ei ej ek =
+      let d = order-of F ok x a b n o b (o .2) in
+      let B' : Interval = record { low = ordinal F (l .b); high = ordinal F (h .b) } in
+      let e = corners-ends F ok x a b p q m (s .0) (s .1) (s .2) B' (spans-of (low-least F b p q d l lo (w .0)) (high-greatest F b p q d h hi (w .1))) in
+      in-format F ok x a b n o (Narrowed.Ends i j k) (rw (ei, ej, ek) (ap (narrowAnswer F) e))

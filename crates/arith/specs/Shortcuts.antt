@@ -1,0 +1,140 @@
+-- The narrowing by a few sums of the machine: each step by what holds of it where it is sure. For contracts inside the crate; no public one cites it. Assumes nothing.
+use mathlib.Core.Path.{_≡_}
+use mathlib.Core.Bool.{Bool, true, false, cond}
+use Prim.Native.Nat.{ℕ, _≤_, _<_}
+use Rattle.ladder.specs.Solution.{In}
+use Rattle.ladder.specs.Search as S
+use Rattle.ladder.specs.Narrowing as N
+use Rattle.arith.specs.declared.format.Format.{Format}
+use Rattle.arith.specs.declared.range.Range.{Range}
+use Rattle.arith.specs.declared.interval.Interval.{Interval}
+use Rattle.arith.specs.declared.guess.Checked.{Checked}
+use Rattle.arith.specs.declared.guess.Pair.{Pair}
+use Rattle.arith.specs.declared.«end».End.{End}
+use Rattle.arith.specs.declared.shortcut.Verdict.{Verdict}
+use Rattle.arith.specs.declared.shortcut.Verdict.the-variants as Verdict
+use Rattle.arith.specs.declared.shortcut.Shortcut.{Shortcut}
+use Rattle.arith.specs.declared.shortcut.Shortcut.the-variants as Shortcut
+use Rattle.arith.specs.declared.narrow.Narrowed.{Narrowed}
+use Rattle.arith.specs.declared.narrow.Narrowed.the-variants as Narrowed
+use Rattle.arith.specs.Refusals.{refusal}
+use Rattle.arith.specs.Formats.{isFinite, Finite, ordinal, sum, mirrored}
+use Rattle.arith.specs.Intervals.{rangeOf, span, endsFinite}
+use Rattle.arith.specs.Machines.{isNumber}
+use Rattle.arith.specs.Narrows.{narrowing}
+use Rattle.arith.specs.Searches.{HasB}
+
+-- ---- one operand
+-- where sure, the operands with a sum with p of at least q are those from y on
+pub record Checks (F : Format) (p q : ℕ) (t : Checked) : Type 0 where
+  pub finite : isFinite F (t .y) ≡ true
+  pub least : t .sure ≡ true → S.Threshold (F .fraction) (F .exponent) (ordinal F p) (ordinal F q) (ordinal F (t .y))
+
+-- ---- both operands
+-- where sure, the operands from x on and up to a that make a sum inside b lie from t's x on and up to t's a, whose sum is t's b
+pub record Trims (F : Format) (x a : ℕ) (b : Interval) (t : Pair) : Type 0 where
+  pub x-finite : isFinite F (t .x) ≡ true
+  pub a-finite : isFinite F (t .a) ≡ true
+  pub number : isNumber F (t .b) ≡ true
+  pub is : ordinal F (t .b) ≡ sum F (ordinal F (t .x)) (ordinal F (t .a))
+  pub trimmed : t .sure ≡ true → S.Trimmed (F .fraction) (F .exponent) (span (rangeOf F b)) (ordinal F x) (ordinal F a) (ordinal F (t .x)) (ordinal F (t .a))
+
+-- the operands of a pair are finite
+abbrev pub PairFinite : Format → Pair → Type 0
+PairFinite F p = (isFinite F (p .x) ≡ true) × (isFinite F (p .a) ≡ true)
+
+-- p is of x's low and a's high end, q of a's low and x's high end
+pub record Trimmings (F : Format) (x a b : Interval) (p q : Pair) : Type 0 where
+  pub first : Trims F (x .low) (a .high) b p
+  pub second : Trims F (a .low) (x .high) b q
+
+-- what they leave of x, by patterns
+abbrev pub leftX : Pair → Pair → Interval
+leftX p q = record { low = p .x; high = q .a }
+
+-- and of a
+abbrev pub leftA : Pair → Pair → Interval
+leftA p q = record { low = q .x; high = p .a }
+
+-- what they leave of x, by ordinals
+abbrev pub xLeft : Format → Pair → Pair → Range
+xLeft F p q = record { low = ordinal F (p .x); high = ordinal F (q .a) }
+
+-- and of a
+abbrev pub aLeft : Format → Pair → Pair → Range
+aLeft F p q = record { low = ordinal F (q .x); high = ordinal F (p .a) }
+
+-- u is zero, or every value of what they leave is a multiple of it
+abbrev pub Gridded : Format → Pair → Pair → ℕ → Type 0
+Gridded F p q u = S.Grid (F .fraction) (F .exponent) (span (xLeft F p q)) (span (aLeft F p q)) (ordinal F u)
+
+-- s lies beyond b, and s less u or s and u on the other side
+pub data Passes (F : Format) (s u : ℕ) (b : Interval) : Type 0 where
+  over : Finite F (ordinal F s) → ordinal F (b .high) < ordinal F s → sum F (ordinal F s) (mirrored F (ordinal F u)) < ordinal F (b .low) → Passes F s u b
+  under : Finite F (ordinal F s) → ordinal F s < ordinal F (b .low) → ordinal F (b .high) < sum F (ordinal F s) (ordinal F u) → Passes F s u b
+
+-- both sums are corners: what is left is in order, and they are inside b
+pub record Corners (F : Format) (b : Interval) (p q : Pair) : Type 0 where
+  pub x-order : ordinal F (p .x) ≤ ordinal F (q .a)
+  pub a-order : ordinal F (q .x) ≤ ordinal F (p .a)
+  pub first : In (span (rangeOf F b)) (ordinal F (p .b))
+  pub second : In (span (rangeOf F b)) (ordinal F (q .b))
+
+-- corners with the grid, for b's ends
+pub record CornersOf (F : Format) (p q : Pair) (u : ℕ) (b : Interval) : Type 0 where
+  pub first : PairFinite F p
+  pub second : PairFinite F q
+  pub first-number : isNumber F (p .b) ≡ true
+  pub second-number : isNumber F (q .b) ≡ true
+  pub first-is : ordinal F (p .b) ≡ sum F (ordinal F (p .x)) (ordinal F (p .a))
+  pub second-is : ordinal F (q .b) ≡ sum F (ordinal F (q .x)) (ordinal F (q .a))
+  pub finite : endsFinite F b ≡ true
+  pub u-finite : isFinite F u ≡ true
+  pub grid : Gridded F p q u
+  pub corners : Corners F b p q
+
+-- corners, or that there is no triple
+abbrev pub Judges : Format → Interval → Interval → Interval → Pair → Pair → Verdict → Type 0
+Judges F x a b p q Verdict.Corners = (p .sure ≡ true) × (q .sure ≡ true) × Corners F b p q
+Judges F x a b p q Verdict.None = N.none ≡ narrowing F (rangeOf F x) (rangeOf F a) (rangeOf F b)
+Judges F x a b p q Verdict.Unsure = Unit {0}
+
+-- ---- b's ends
+-- v is the least b in a triple, seen without a search: the sum of the low ends, or the sum k, below which there is none from b on
+pub data Known (F : Format) (low k u b v : ℕ) : Type 0 where
+  at-low : ordinal F b ≤ ordinal F low → ordinal F v ≡ ordinal F low → Known F low k u b v
+  at-sum : ordinal F k ≤ ordinal F b → ordinal F v ≡ ordinal F k → Known F low k u b v
+  at-gap : sum F (ordinal F k) (mirrored F (ordinal F u)) < ordinal F b → ordinal F v ≡ ordinal F k → Known F low k u b v
+
+-- where known, so is the end; else it is b's own
+pub record KnownEnd (F : Format) (low k u b : ℕ) (t : End) : Type 0 where
+  pub finite : isFinite F (t .b) ≡ true
+  pub known : t .known ≡ true → Known F low k u b (t .b)
+  pub own : t .known ≡ false → t .b ≡ b
+
+-- x and a have numbers with the sum b
+pub record Reached (F : Format) (x a : Interval) (b : ℕ) : Type 0 where
+  pub y : ℕ
+  pub z : ℕ
+  pub x-in : In (span (rangeOf F x)) y
+  pub a-in : In (span (rangeOf F a)) z
+  pub is : sum F y z ≡ ordinal F b
+
+-- the low end, where known, is the least b in a triple of what is left; else it is b's own
+pub record LowEnd (F : Format) (p q : Pair) (b : Interval) (t : End) : Type 0 where
+  pub finite : isFinite F (t .b) ≡ true
+  pub known : t .known ≡ true → S.Least (HasB F (xLeft F p q) (aLeft F p q) (rangeOf F b)) (ordinal F (t .b))
+  pub own : t .known ≡ false → ordinal F (t .b) ≡ ordinal F (b .low)
+
+-- the high end, where known, is the greatest; else it is b's own
+pub record HighEnd (F : Format) (p q : Pair) (b : Interval) (t : End) : Type 0 where
+  pub finite : isFinite F (t .b) ≡ true
+  pub known : t .known ≡ true → S.Greatest (HasB F (xLeft F p q) (aLeft F p q) (rangeOf F b)) (ordinal F (t .b))
+  pub own : t .known ≡ false → ordinal F (t .b) ≡ ordinal F (b .high)
+
+-- ---- the whole
+-- the answer, where there is one
+abbrev pub Answers : Narrowed → Shortcut → Type 0
+Answers n (Shortcut.Ends x a b) = Narrowed.Ends x a b ≡ n
+Answers n Shortcut.None = Narrowed.Refused (refusal 11) ≡ n
+Answers n Shortcut.Unsure = Unit {0}

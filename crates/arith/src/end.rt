@@ -1,0 +1,130 @@
+// The ends of b by a few sums: the sum of the low ends, a sum below which the grid has none, or b's own end where one more sum makes it. Where these do not settle it, that is said.
+ghost use mathlib.Core.Path.{_≡_};
+ghost use mathlib.Core.Bool.{true, false};
+ghost use Prim.Native.Nat.{_≤_};
+ghost use Rattle.arith.specs.Formats.{isFinite, ordinal, mirrored};
+ghost use Rattle.arith.specs.Intervals.{endsFinite};
+ghost use Rattle.arith.specs.Machines.{machine, isNumber};
+ghost use Rattle.arith.specs.Shortcuts.{PairFinite, leftX, leftA, Corners, CornersOf, KnownEnd, LowEnd, HighEnd, Reached};
+use crate::guess::Pair;
+use crate::interval::Interval;
+use crate::machine::add;
+use crate::machine::at_most;
+use crate::machine::both;
+use crate::machine::choose;
+use crate::machine::either;
+use crate::machine::greater;
+use crate::machine::lesser;
+use crate::machine::opposite;
+use crate::machine::size;
+
+// An end of b, and whether it is known; else it is b's own.
+pub(crate) struct End {
+    pub(crate) b: u64,
+    pub(crate) known: bool,
+}
+
+// The low end, by the sum of the low ends and a sum k that stands in a triple.
+fn least_end(wide: bool, low: u64, k: u64, u: u64, b: u64) -> End
+    requires { ⌜ (isNumber (machine wide) low ≡ true) × (isFinite (machine wide) k ≡ true) × (isFinite (machine wide) u ≡ true) × (isFinite (machine wide) b ≡ true) × (ordinal (machine wide) low ≤ ordinal (machine wide) k) × (ordinal (machine wide) b ≤ ordinal (machine wide) k) ⌝ }
+    ensures { λ t. ⌜ KnownEnd (machine wide) low k u b t ⌝ }
+{
+    let gap = !at_most(wide, b, add(wide, k, opposite(wide, u)));
+    let known = either(either(at_most(wide, b, low), at_most(wide, k, b)), gap);
+    let end = greater(wide, choose(gap, k, b), low);
+    End {
+        b: choose(known, end, b),
+        known,
+    }
+}
+
+// Whether c with a number of i makes b.
+fn reaches(wide: bool, c: u64, i: Interval, b: u64) -> bool
+    requires { ⌜ (isFinite (machine wide) c ≡ true) × (endsFinite (machine wide) i ≡ true) × (isFinite (machine wide) b ≡ true) × (ordinal (machine wide) (i .low) ≤ ordinal (machine wide) (i .high)) ⌝ }
+    ensures { λ r. ⌜ (r ≡ true → Reached (machine wide) i (record { low = c; high = c }) b) ⌝ }
+{
+    let y = lesser(
+        wide,
+        greater(wide, add(wide, b, opposite(wide, c)), i.low),
+        i.high,
+    );
+    let s = add(wide, y, c);
+    both(at_most(wide, s, b), at_most(wide, b, s))
+}
+
+// Whether a low end of x or a with a number of the other makes b: the low end that is farther from zero.
+fn witness(wide: bool, x: Interval, a: Interval, b: u64) -> bool
+    requires { ⌜ (endsFinite (machine wide) x ≡ true) × (endsFinite (machine wide) a ≡ true) × (isFinite (machine wide) b ≡ true) × (ordinal (machine wide) (x .low) ≤ ordinal (machine wide) (x .high)) × (ordinal (machine wide) (a .low) ≤ ordinal (machine wide) (a .high)) ⌝ }
+    ensures { λ r. ⌜ (r ≡ true → Reached (machine wide) x a b) ⌝ }
+{
+    if size(wide, a.low) <= size(wide, x.low) {
+        return reaches(wide, x.low, a, b);
+    }
+    reaches(wide, a.low, x, b)
+}
+
+// From the opposite of the high end to that of the low end.
+fn mirror(wide: bool, i: Interval) -> Interval
+    requires { ⌜ endsFinite (machine wide) i ≡ true ⌝ }
+    ensures { λ r. ⌜ (endsFinite (machine wide) r ≡ true) × (ordinal (machine wide) (r .low) ≡ mirrored (machine wide) (ordinal (machine wide) (i .high))) × (ordinal (machine wide) (r .high) ≡ mirrored (machine wide) (ordinal (machine wide) (i .low))) ⌝ }
+{
+    Interval {
+        low: opposite(wide, i.high),
+        high: opposite(wide, i.low),
+    }
+}
+
+// The low end of the b in a triple, by the corners p and q and the grid of u.
+pub(crate) fn low_end(wide: bool, p: Pair, q: Pair, u: u64, b: Interval) -> End
+    requires { ⌜ CornersOf (machine wide) p q u b ⌝ }
+    ensures { λ t. ⌜ LowEnd (machine wide) p q b t ⌝ }
+{
+    least_end(wide, add(wide, p.x, q.x), lesser(wide, p.b, q.b), u, b.low)
+}
+
+// The high end: the mirror image of a low end.
+pub(crate) fn high_end(wide: bool, p: Pair, q: Pair, u: u64, b: Interval) -> End
+    requires { ⌜ CornersOf (machine wide) p q u b ⌝ }
+    ensures { λ t. ⌜ HighEnd (machine wide) p q b t ⌝ }
+{
+    let t = least_end(
+        wide,
+        opposite(wide, add(wide, q.a, p.a)),
+        opposite(wide, greater(wide, q.b, p.b)),
+        u,
+        opposite(wide, b.high),
+    );
+    End {
+        b: opposite(wide, t.b),
+        known: t.known,
+    }
+}
+
+// Whether the ends that are not known are b's own, by a sum each of what is left.
+pub(crate) fn attained(wide: bool, low: bool, high: bool, p: Pair, q: Pair, b: Interval) -> bool
+    requires { ⌜ (PairFinite (machine wide) p) × (PairFinite (machine wide) q) × (endsFinite (machine wide) b ≡ true) × (Corners (machine wide) b p q) ⌝ }
+    ensures { λ r. ⌜ (r ≡ true → (low ≡ false → Reached (machine wide) (leftX p q) (leftA p q) (b .low)) × (high ≡ false → Reached (machine wide) (leftX p q) (leftA p q) (b .high))) ⌝ }
+{
+    let x = Interval {
+        low: p.x,
+        high: q.a,
+    };
+    let a = Interval {
+        low: q.x,
+        high: p.a,
+    };
+    if !low {
+        if !witness(wide, x, a, b.low) {
+            return false;
+        }
+    }
+    if high {
+        return true;
+    }
+    witness(
+        wide,
+        mirror(wide, x),
+        mirror(wide, a),
+        opposite(wide, b.high),
+    )
+}

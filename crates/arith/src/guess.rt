@@ -1,0 +1,85 @@
+// The least operand by a guess: a difference of floats is it or next to it, and two sums show which. So nothing of the guess needs a proof, and where the sums do not show it, that is said.
+ghost use mathlib.Core.Path.{_≡_};
+ghost use mathlib.Core.Bool.{true};
+ghost use Prim.Native.Nat.{_≤_};
+ghost use Rattle.arith.specs.Formats.{isFinite, ordinal};
+ghost use Rattle.arith.specs.Intervals.{endsFinite};
+ghost use Rattle.arith.specs.Machines.{machine, isNumber};
+ghost use Rattle.arith.specs.Shortcuts.{Checks, Trims};
+use crate::interval::Interval;
+use crate::machine::add;
+use crate::machine::at_most;
+use crate::machine::choose;
+use crate::machine::either;
+use crate::machine::format_at;
+use crate::machine::opposite;
+use crate::machine::size;
+
+// An operand, and whether it is surely the least.
+pub(crate) struct Checked {
+    pub(crate) y: u64,
+    pub(crate) sure: bool,
+}
+
+// A lower bound for one operand and an upper bound for the other, with their sum, and whether they are surely bounds.
+pub(crate) struct Pair {
+    pub(crate) x: u64,
+    pub(crate) a: u64,
+    pub(crate) b: u64,
+    pub(crate) sure: bool,
+}
+
+// The least y with a sum with p of at least q, if that is c or the number after c.
+fn check(wide: bool, c: u64, p: u64, q: u64) -> Checked
+    requires { ⌜ (isNumber (machine wide) c ≡ true) × (isFinite (machine wide) p ≡ true) × (isFinite (machine wide) q ≡ true) ⌝ }
+    ensures { λ t. ⌜ Checks (machine wide) p q t ⌝ }
+{
+    let format = format_at(wide);
+    let m = size(wide, c);
+    if m == 0 {
+        return Checked { y: q, sure: false };
+    }
+    if format.infinity - 1 <= m {
+        return Checked { y: q, sure: false };
+    }
+    let positive = c < format.sign;
+    let after = choose(positive, c + 1, c - 1);
+    let before = choose(positive, c - 1, c + 1);
+    let enough = at_most(wide, q, add(wide, c, p));
+    let other = choose(enough, before, after);
+    let reaches = at_most(wide, q, add(wide, other, p));
+    Checked {
+        y: choose(enough, c, after),
+        sure: reaches != enough,
+    }
+}
+
+// From the low end x of one operand and the high end a of the other: where their sum falls short of b, x goes up, and where it is past b, a comes down. h has half the gap below b's low end and half the gap above its high end, both with the sign set.
+pub(crate) fn trim(wide: bool, x: u64, a: u64, b: Interval, h: Interval) -> Pair
+    requires { ⌜ (isFinite (machine wide) x ≡ true) × (isFinite (machine wide) a ≡ true) × (endsFinite (machine wide) b ≡ true) × (endsFinite (machine wide) h ≡ true) × (ordinal (machine wide) (b .low) ≤ ordinal (machine wide) (b .high)) ⌝ }
+    ensures { λ t. ⌜ Trims (machine wide) x a b t ⌝ }
+{
+    let s = add(wide, x, a);
+    let enough = at_most(wide, b.low, s);
+    let short = !enough;
+    let past = !at_most(wide, s, b.high);
+    let minus_x = opposite(wide, x);
+    let minus_b = opposite(wide, b.high);
+    let up = add(wide, add(wide, b.low, opposite(wide, a)), h.low);
+    let down = add(wide, add(wide, x, minus_b), h.high);
+    let guess = choose(enough, down, up);
+    let t = check(
+        wide,
+        guess,
+        choose(short, a, minus_x),
+        choose(short, b.low, minus_b),
+    );
+    let p = choose(short, t.y, x);
+    let q = choose(past, opposite(wide, t.y), a);
+    Pair {
+        x: p,
+        a: q,
+        b: add(wide, p, q),
+        sure: either(t.sure, short == past),
+    }
+}

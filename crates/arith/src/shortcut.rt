@@ -1,0 +1,196 @@
+// The narrowing by a few sums of the machine, without a search and nearly without a branch. Where these do not settle it, that is said, and the exact way of narrow.rt answers. One body for each width, so that the compiler has both without a test of the width.
+ghost use mathlib.Core.Path.{_≡_};
+ghost use mathlib.Core.Bool.{_&&_, true};
+ghost use lib.Dec.{leb};
+ghost use Rattle.arith.specs.Formats.{isKnown, formatOf, isFinite, ordinal};
+ghost use Rattle.arith.specs.Intervals.{endsFinite, rangeOf, isOrdered, intervalOf};
+ghost use Rattle.arith.specs.Machines.{machine, isNumber};
+ghost use Rattle.arith.specs.Narrows.{narrowIn};
+ghost use Rattle.arith.specs.Shortcuts.{Trimmings, Gridded, Judges, Answers};
+use crate::end::attained;
+use crate::end::high_end;
+use crate::end::low_end;
+use crate::grid::grid_step;
+use crate::grid::passes;
+use crate::guess::Pair;
+use crate::guess::trim;
+use crate::half_ulp::half_gap_below;
+use crate::interval::Interval;
+use crate::interval::ends_finite;
+use crate::machine::at_most;
+use crate::machine::both;
+use crate::machine::canonical;
+use crate::machine::format_at;
+use crate::machine::opposite;
+
+// Whether two sums are corners, or no sum is inside b.
+pub(crate) enum Verdict {
+    Corners,
+    None,
+    Unsure,
+}
+
+// The narrowing, that there is no triple, or that neither is known.
+pub(crate) enum Shortcut {
+    Ends {
+        x: Interval,
+        a: Interval,
+        b: Interval,
+    },
+    None,
+    Unsure,
+}
+
+// Whether three intervals of finite ends are in order.
+fn in_order(wide: bool, x: Interval, a: Interval, b: Interval) -> bool
+    requires { ⌜ (endsFinite (machine wide) x ≡ true) × (endsFinite (machine wide) a ≡ true) × (endsFinite (machine wide) b ≡ true) ⌝ }
+    ensures { λ r. ⌜ (r ≡ true → (isOrdered (rangeOf (machine wide) x) ≡ true) × (isOrdered (rangeOf (machine wide) a) ≡ true) × (isOrdered (rangeOf (machine wide) b) ≡ true)) ⌝ }
+{
+    both(
+        both(at_most(wide, x.low, x.high), at_most(wide, a.low, a.high)),
+        at_most(wide, b.low, b.high),
+    )
+}
+
+// Whether three intervals have finite ends.
+fn all_finite(wide: bool, x: Interval, a: Interval, b: Interval) -> bool
+    ensures { λ r. ⌜ (r ≡ true → (endsFinite (machine wide) x ≡ true) × (endsFinite (machine wide) a ≡ true) × (endsFinite (machine wide) b ≡ true)) ⌝ }
+{
+    let format = format_at(wide);
+    both(
+        both(ends_finite(format, x), ends_finite(format, a)),
+        ends_finite(format, b),
+    )
+}
+
+// Half the gaps beyond b's ends, with the sign set.
+fn half_gaps(wide: bool, b: Interval) -> Interval
+    requires { ⌜ endsFinite (machine wide) b ≡ true ⌝ }
+    ensures { λ h. ⌜ endsFinite (machine wide) h ≡ true ⌝ }
+{
+    Interval {
+        low: opposite(wide, half_gap_below(wide, b.low)),
+        high: opposite(wide, half_gap_below(wide, opposite(wide, b.high))),
+    }
+}
+
+// Whether a number is inside an interval.
+fn within(wide: bool, s: u64, i: Interval) -> bool
+    requires { ⌜ (isNumber (machine wide) s ≡ true) × (endsFinite (machine wide) i ≡ true) ⌝ }
+    ensures { λ r. ⌜ r ≡ (leb (ordinal (machine wide) (i .low)) (ordinal (machine wide) s) && leb (ordinal (machine wide) s) (ordinal (machine wide) (i .high))) ⌝ }
+{
+    both(at_most(wide, i.low, s), at_most(wide, s, i.high))
+}
+
+// What the two trims show.
+fn judge(wide: bool, x: Interval, a: Interval, b: Interval, p: Pair, q: Pair, u: u64) -> Verdict
+    requires { ⌜ (Trimmings (machine wide) x a b p q) × (endsFinite (machine wide) b ≡ true) × (isFinite (machine wide) u ≡ true) × (Gridded (machine wide) p q u) ⌝ }
+    ensures { λ v. ⌜ Judges (machine wide) x a b p q v ⌝ }
+{
+    if !both(p.sure, q.sure) {
+        return Verdict::Unsure;
+    }
+    if !both(at_most(wide, p.x, q.a), at_most(wide, q.x, p.a)) {
+        return Verdict::None;
+    }
+    if both(within(wide, p.b, b), within(wide, q.b, b)) {
+        return Verdict::Corners;
+    }
+    if passes(wide, p.b, u, b) {
+        return Verdict::None;
+    }
+    if passes(wide, q.b, u, b) {
+        return Verdict::None;
+    }
+    Verdict::Unsure
+}
+
+// The ends, each in its one pattern.
+fn canonical_ends(wide: bool, low: u64, high: u64) -> Interval
+    requires { ⌜ (isFinite (machine wide) low ≡ true) × (isFinite (machine wide) high ≡ true) ⌝ }
+    ensures { λ i. ⌜ i ≡ intervalOf (machine wide) (record { low = ordinal (machine wide) low; high = ordinal (machine wide) high }) ⌝ }
+{
+    Interval {
+        low: canonical(wide, low),
+        high: canonical(wide, high),
+    }
+}
+
+// The narrowing at width 64, if a few sums show it.
+fn shortcut64(x: Interval, a: Interval, b: Interval) -> Shortcut
+    ensures { λ r. ⌜ Answers (narrowIn (formatOf 64) x a b) r ⌝ }
+{
+    if !all_finite(true, x, a, b) {
+        return Shortcut::Unsure;
+    }
+    if !in_order(true, x, a, b) {
+        return Shortcut::Unsure;
+    }
+    let h = half_gaps(true, b);
+    let p = trim(true, x.low, a.high, b, h);
+    let q = trim(true, a.low, x.high, b, h);
+    let u = grid_step(true, p, q);
+    match judge(true, x, a, b, p, q, u) {
+        Verdict::None => Shortcut::None,
+        Verdict::Unsure => Shortcut::Unsure,
+        Verdict::Corners => {
+            let low = low_end(true, p, q, u, b);
+            let high = high_end(true, p, q, u, b);
+            if !both(low.known, high.known) {
+                if !attained(true, low.known, high.known, p, q, b) {
+                    return Shortcut::Unsure;
+                }
+            }
+            Shortcut::Ends {
+                x: canonical_ends(true, p.x, q.a),
+                a: canonical_ends(true, q.x, p.a),
+                b: canonical_ends(true, low.b, high.b),
+            }
+        }
+    }
+}
+
+// The narrowing at width 32, if a few sums show it.
+fn shortcut32(x: Interval, a: Interval, b: Interval) -> Shortcut
+    ensures { λ r. ⌜ Answers (narrowIn (formatOf 32) x a b) r ⌝ }
+{
+    if !all_finite(false, x, a, b) {
+        return Shortcut::Unsure;
+    }
+    if !in_order(false, x, a, b) {
+        return Shortcut::Unsure;
+    }
+    let h = half_gaps(false, b);
+    let p = trim(false, x.low, a.high, b, h);
+    let q = trim(false, a.low, x.high, b, h);
+    let u = grid_step(false, p, q);
+    match judge(false, x, a, b, p, q, u) {
+        Verdict::None => Shortcut::None,
+        Verdict::Unsure => Shortcut::Unsure,
+        Verdict::Corners => {
+            let low = low_end(false, p, q, u, b);
+            let high = high_end(false, p, q, u, b);
+            if !both(low.known, high.known) {
+                if !attained(false, low.known, high.known, p, q, b) {
+                    return Shortcut::Unsure;
+                }
+            }
+            Shortcut::Ends {
+                x: canonical_ends(false, p.x, q.a),
+                a: canonical_ends(false, q.x, p.a),
+                b: canonical_ends(false, low.b, high.b),
+            }
+        }
+    }
+}
+
+// The narrowing at a known width, if a few sums show it.
+pub(crate) fn shortcut_at(width: u64, x: Interval, a: Interval, b: Interval) -> Shortcut
+    requires { ⌜ isKnown width ≡ true ⌝ }
+    ensures { λ r. ⌜ Answers (narrowIn (formatOf width) x a b) r ⌝ }
+{
+    if width == 64 {
+        return shortcut64(x, a, b);
+    }
+    shortcut32(x, a, b)
+}
