@@ -1,12 +1,11 @@
 -- The least operand by a guess: the patterns next to one, what the two sums of `check` show, and what `trim` cuts by it. Rests on Formats and on `ladder`'s Trimming.
 use mathlib.Core.Path.{_≡_, refl, sym, ap, subst, _∙_}
 use mathlib.Core.Logic.{inl, inr}
-use mathlib.Core.Bool.{Bool, true, false, not, cond, _||_, true≢false, Bool·beq}
+use mathlib.Core.Bool.{Bool, true, false, not, cond, _&&_, _||_, true≢false, Bool·beq}
 use Prim.Native.Nat.{ℕ, _+_, _-_, _^_, _≤_, _<_}
 use native.Mathlib.Omega.{arith}
-use lib.Dec.{leb, ltb, lit≤}
-use borrow.Author.Tests.{lt-ltb, le-ltb, leb-true, leb-false}
-use Rattle.ladder.specs.Ordinal as L
+use lib.Dec.{eqb, leb, ltb}
+use borrow.Author.Tests.{eq-eqb, lt-ltb, le-ltb, ltb-true, leb-true, leb-false}
 use Rattle.ladder.specs.Search.{Threshold, Trimmed}
 use Rattle.ladder.proofs.Cases.{le-or-lt}
 use Rattle.ladder.proofs.Ordinals.{ordinal-finite}
@@ -16,9 +15,9 @@ use Rattle.arith.specs.declared.interval.Interval.{Interval}
 use Rattle.arith.specs.declared.guess.Checked.{Checked}
 use Rattle.arith.specs.Formats.{Sound, isFinite, ordinal, sum}
 use Rattle.arith.specs.Intervals.{endsFinite, rangeOf, span}
-use Rattle.arith.specs.Machines.{machine, sizeOf, Adds, Negates}
+use Rattle.arith.specs.Machines.{sizeOf, Adds, Negates}
 use Rattle.arith.specs.Shortcuts.{Checks, Trims}
-use Rattle.arith.proofs.Formats.{infinity-lt, finite-low, finite-high, ordinal-low, ordinal-high}
+use Rattle.arith.proofs.Formats.{both, infinity-lt, finite-low, finite-high, ordinal-low, ordinal-high}
 use Rattle.arith.proofs.Intervals.{ends-both}
 use Rattle.arith.proofs.Machines.{chosen}
 use Rattle.arith.proofs.HalfUlps.{size-low, size-high}
@@ -42,12 +41,23 @@ pub record Near (F : Format) (c after before : ℕ) : Type 0 where
   pub after-is : ordinal F after ≡ ordinal F c + 1
   pub before-is : ordinal F c ≡ ordinal F before + 1
 
-pub inner : (F G : Format) (m c : ℕ) → G ≡ F → m ≡ sizeOf F c → (m ≡ 0 → ⊥) → m < G .infinity - 1 → Inner F c
-inner F G m c e h n l =
+-- by the test of its m
+inner-at : (F G : Format) (m c : ℕ) → G ≡ F → m ≡ sizeOf F c → (not (eqb m 0) && ltb m (G .infinity - 1)) ≡ true → Inner F c
+inner-at F G m c e h t =
     let i = ap (λ (H : Format). H .infinity) e in
-    record { some = omega arith; few = omega arith }
+    let b = both (not (eqb m 0)) (ltb m (G .infinity - 1)) t in
+    let l = ltb-true m (G .infinity - 1) (b .1) in
+    record { some = elim (le-or-lt m 0) [ inl z ↦ absurd (true≢false (sym (b .0) ∙ ap not (eq-eqb m 0 (omega arith)))) | inr z ↦ omega arith ]; few = omega arith }
 
 module _ (F : Format) (ok : Sound F) where
+  one-inner : 2 < F .infinity → Inner F 1
+  one-inner l = let z = size-low F ok 1 (omega (arith, infinity-lt F ok)) in record { some = omega arith; few = omega arith }
+
+  -- c where the test holds, else 1
+  pub inner : (G : Format) (m c d : ℕ) (within : Bool) → 2 < F .infinity → G ≡ F → m ≡ sizeOf F c → within ≡ (not (eqb m 0) && ltb m (G .infinity - 1)) → d ≡ cond within c 1 → Inner F d
+  inner G m c d true l e h t i = rw i (inner-at F G m c e h (sym t))
+  inner G m c d false l e h t i = rw i (one-inner l)
+
   -- c has a number on each side, and both fit a word
   pub inner-some : (c : ℕ) → Inner F c → 1 ≤ c
   inner-some c n = elim (le-or-lt (F .sign) c) [
@@ -99,30 +109,37 @@ module _ (F : Format) (ok : Sound F) where
   near s c after before n e h k = rw (h, k, e) (near-at c n)
 
   -- ---- what two sums show
-  module _ (p q c after before : ℕ) (n : Near F c after before) (s other t : ℕ) (S : Adds F c p s) (T : Adds F other p t) where
-    -- c's sum is enough, that of the number before is not
-    stays : (reaches : Bool) → leb (ordinal F q) (ordinal F s) ≡ true → other ≡ before → reaches ≡ leb (ordinal F q) (ordinal F t) → not (Bool·beq reaches true) ≡ true → Threshold (F .fraction) (F .exponent) (ordinal F p) (ordinal F q) (ordinal F c)
-    stays true h o r e = absurd (true≢false (sym e))
-    stays false h o r e =
+  module _ (p q d after before : ℕ) (n : Near F d after before) (s other t : ℕ) (T : Adds F other p t) where
+    -- d's sum is enough, that of the number before is not
+    stays : (reaches : Bool) → ordinal F s ≡ sum F (ordinal F d) (ordinal F p) → leb (ordinal F q) (ordinal F s) ≡ true → other ≡ before → reaches ≡ leb (ordinal F q) (ordinal F t) → not (Bool·beq reaches true) ≡ true → Threshold (F .fraction) (F .exponent) (ordinal F p) (ordinal F q) (ordinal F d)
+    stays true i h o r e = absurd (true≢false (sym e))
+    stays false i h o r e =
         let u : ordinal F t ≡ sum F (ordinal F before) (ordinal F p) = rw o at (T .is (rw o (n .before-finite))) in
-        let v : ordinal F s ≡ sum F (ordinal F before + 1) (ordinal F p) = S .is (n .finite) ∙ ap (λ (r : ℕ). sum F r (ordinal F p)) (n .before-is) in
+        let v : ordinal F s ≡ sum F (ordinal F before + 1) (ordinal F p) = i ∙ ap (λ (r : ℕ). sum F r (ordinal F p)) (n .before-is) in
         rw (n .before-is) (threshold-after (F .fraction) (F .exponent) (ok .some) (ordinal F p) (ordinal F q) (ordinal F before) (omega (arith, leb-false (ordinal F q) (ordinal F t) (sym r))) (omega (arith, leb-true (ordinal F q) (ordinal F s) h)))
 
-    -- c's sum is not enough, that of the number after is
-    moves : (reaches : Bool) → leb (ordinal F q) (ordinal F s) ≡ false → other ≡ after → reaches ≡ leb (ordinal F q) (ordinal F t) → not (Bool·beq reaches false) ≡ true → Threshold (F .fraction) (F .exponent) (ordinal F p) (ordinal F q) (ordinal F after)
-    moves false h o r e = absurd (true≢false (sym e))
-    moves true h o r e =
-        let u : ordinal F t ≡ sum F (ordinal F c + 1) (ordinal F p) = rw (o, n .after-is) at (T .is (rw o (n .after-finite))) in
-        let v = S .is (n .finite) in
-        rw (n .after-is) (threshold-after (F .fraction) (F .exponent) (ok .some) (ordinal F p) (ordinal F q) (ordinal F c) (omega (arith, leb-false (ordinal F q) (ordinal F s) h)) (omega (arith, leb-true (ordinal F q) (ordinal F t) (sym r))))
+    -- d's sum is not enough, that of the number after is
+    moves : (reaches : Bool) → ordinal F s ≡ sum F (ordinal F d) (ordinal F p) → leb (ordinal F q) (ordinal F s) ≡ false → other ≡ after → reaches ≡ leb (ordinal F q) (ordinal F t) → not (Bool·beq reaches false) ≡ true → Threshold (F .fraction) (F .exponent) (ordinal F p) (ordinal F q) (ordinal F after)
+    moves false i h o r e = absurd (true≢false (sym e))
+    moves true i h o r e =
+        let u : ordinal F t ≡ sum F (ordinal F d + 1) (ordinal F p) = rw (o, n .after-is) at (T .is (rw o (n .after-finite))) in
+        rw (n .after-is) (threshold-after (F .fraction) (F .exponent) (ok .some) (ordinal F p) (ordinal F q) (ordinal F d) (omega (arith, leb-false (ordinal F q) (ordinal F s) h)) (omega (arith, leb-true (ordinal F q) (ordinal F t) (sym r))))
 
-    pub checked : (enough reaches : Bool) (y : ℕ) → enough ≡ leb (ordinal F q) (ordinal F s) → other ≡ cond enough before after → reaches ≡ leb (ordinal F q) (ordinal F t) → y ≡ cond enough c after → Checks F p q (record { y = y; sure = not (Bool·beq reaches enough) })
-    checked true reaches y h o r i = rw i (record { finite = n .finite; least = stays reaches (sym h) o r })
-    checked false reaches y h o r i = rw i (record { finite = n .after-finite; least = moves reaches (sym h) o r })
+    module _ (c : ℕ) (S : Adds F c p s) where
+      own : d ≡ c → ordinal F s ≡ sum F (ordinal F d) (ordinal F p)
+      own w = S .is (subst (λ (m : ℕ). isFinite F m ≡ true) w (n .finite)) ∙ ap (λ (m : ℕ). sum F (ordinal F m) (ordinal F p)) (sym w)
 
-  -- nothing is said where it is not sure
-  pub unsure : (p q y : ℕ) → isFinite F y ≡ true → Checks F p q (record { y = y; sure = false })
-  unsure p q y h = record { finite = h; least = λ e. absurd (true≢false (sym e)) }
+      -- the sum is c's, and where the test holds d is c
+      least : (within enough reaches : Bool) → d ≡ cond within c 1 → enough ≡ leb (ordinal F q) (ordinal F s) → other ≡ cond enough before after → reaches ≡ leb (ordinal F q) (ordinal F t) → (within && not (Bool·beq reaches enough)) ≡ true → Threshold (F .fraction) (F .exponent) (ordinal F p) (ordinal F q) (ordinal F (cond enough d after))
+      least false enough reaches w h o r e = absurd (true≢false (sym e))
+      least true true reaches w h o r e = stays reaches (own w) (sym h) o r e
+      least true false reaches w h o r e = moves reaches (own w) (sym h) o r e
+
+      pub checked : (within enough reaches sure : Bool) (y : ℕ) → d ≡ cond within c 1 → enough ≡ leb (ordinal F q) (ordinal F s) → other ≡ cond enough before after → reaches ≡ leb (ordinal F q) (ordinal F t) → y ≡ cond enough d after → sure ≡ (within && not (Bool·beq reaches enough)) → Checks F p q (record { y = y; sure = sure })
+      checked within enough reaches sure y w h o r i j = record {
+        finite = chosen (λ (m : ℕ). isFinite F m ≡ true) enough y d after i (n .finite) (n .after-finite);
+        least = λ e. rw i (least within enough reaches w h o r (sym j ∙ e));
+      }
 
   -- ---- what is cut
   module _ (x a s : ℕ) (b : Interval) (X : isFinite F x ≡ true) (A : isFinite F a ≡ true) (B : endsFinite F b ≡ true) (S : Adds F x a s) where

@@ -1,22 +1,21 @@
 -- Half an ulp on machine words: by the exponent field, a subnormal one or a normal one, and the size of a pattern. Rests on `ladder`'s Granularity.
 use mathlib.Core.Path.{_≡_, sym, ap, _∙_}
 use mathlib.Core.Logic.{inl, inr}
-use mathlib.Core.Bool.{Bool, true, false}
+use mathlib.Core.Bool.{true}
 use Prim.Native.Nat.{ℕ, _+_, _-_, _*_, _/_, _^_, _≤_, _<_}
 use native.Mathlib.Nat.{mul-le-mul-right}
 use native.Mathlib.Omega.{arith}
-use lib.Dec.{lit≤}
+use lib.Dec.{ltb}
 use lib.Pow.{pow-mono}
 use borrow.Author.Tests.{lt-ltb, le-ltb, ltb-true}
 use Rattle.ladder.specs.Magnitude.{magnitude}
-use Rattle.ladder.specs.Ordinal as L
 use Rattle.ladder.proofs.Cases.{le-or-lt}
 use Rattle.ladder.proofs.Magnitude.{magnitude-small}
 use Rattle.ladder.proofs.Granularity.{magnitude-power}
 use Rattle.ladder.proofs.Ordinals.{sign-is}
 use Rattle.arith.specs.declared.format.Format.{Format}
 use Rattle.arith.specs.Formats.{Sound, isFinite}
-use Rattle.arith.specs.Machines.{machine, sizeOf, HalfUlp}
+use Rattle.arith.specs.Machines.{sizeOf, HalfUlp}
 use Rattle.arith.proofs.Formats.{infinity-lt, finite-low, finite-high}
 use Rattle.arith.proofs.Clamping.{field}
 
@@ -35,11 +34,14 @@ module _ (F : Format) (ok : Sound F) where
   pub size-high : (p : ℕ) → F .sign ≤ p → sizeOf F p ≡ p - F .sign
   size-high p l = simp (le-ltb _ _ l)
 
-  pub size-lt : (p : ℕ) → isFinite F p ≡ true → sizeOf F p < F .infinity
-  size-lt p h = elim (le-or-lt (F .sign) p) [
-    | inl l ↦ rw (size-high p l) (ltb-true _ _ (finite-high F ok p l ∙ h))
-    | inr l ↦ rw (size-low p l) (ltb-true _ _ (finite-low F ok p l ∙ h))
+  pub size-finite : (p : ℕ) → ltb (sizeOf F p) (F .infinity) ≡ isFinite F p
+  size-finite p = elim (le-or-lt (F .sign) p) [
+    | inl l ↦ rw (size-high p l) (finite-high F ok p l)
+    | inr l ↦ rw (size-low p l) (finite-low F ok p l)
   ]
+
+  pub size-lt : (p : ℕ) → isFinite F p ≡ true → sizeOf F p < F .infinity
+  size-lt p h = ltb-true _ _ (size-finite p ∙ h)
 
   -- ---- half an ulp of m, by its exponent field q
   module _ (m q : ℕ) (fits : m < F .sign) (is : q ≡ m / 2 ^ F .fraction) where

@@ -68,13 +68,13 @@ module _ (F : Format) where
   Ready low k u b = (isNumber F low ≡ true) × (isFinite F k ≡ true) × (isFinite F u ≡ true) × (isFinite F b ≡ true) × (ordinal F low ≤ ordinal F k) × (ordinal F b ≤ ordinal F k)
 
   module _ (low k u b : ℕ) where
-    settled : (known : Bool) (v w : ℕ) → known ≡ true → w ≡ cond known v b → isFinite F v ≡ true → Known F low k u b v → KnownEnd F low k u b (record { b = w; known = known })
-    settled true v w t e n s = record { finite = subst (λ (p : ℕ). isFinite F p ≡ true) (sym e) n; known = λ z. subst (Known F low k u b) (sym e) s; own = λ z. absurd (true≢false z) }
-    settled false v w t e n s = absurd (true≢false (sym t))
+    settled : (known : Bool) (v : ℕ) → known ≡ true → isFinite F v ≡ true → Known F low k u b v → KnownEnd F low k u b (record { b = v; known = known })
+    settled true v t n s = record { finite = n; known = λ z. s; own = λ z. absurd (true≢false z) }
+    settled false v t n s = absurd (true≢false (sym t))
 
-    unsettled : (known : Bool) (v w : ℕ) → known ≡ false → w ≡ cond known v b → isFinite F b ≡ true → KnownEnd F low k u b (record { b = w; known = known })
-    unsettled true v w t e n = absurd (true≢false t)
-    unsettled false v w t e n = record { finite = subst (λ (p : ℕ). isFinite F p ≡ true) (sym e) n; known = λ z. absurd (true≢false (sym z)); own = λ z. e }
+    unsettled : (known : Bool) (v : ℕ) → known ≡ false → v ≡ b → isFinite F b ≡ true → KnownEnd F low k u b (record { b = v; known = known })
+    unsettled true v t e n = absurd (true≢false t)
+    unsettled false v t e n = record { finite = subst (λ (p : ℕ). isFinite F p ≡ true) (sym e) n; known = λ z. absurd (true≢false (sym z)); own = λ z. e }
 
     module _ (nl : isNumber F low ≡ true) (nk : isFinite F k ≡ true) (nb : isFinite F b ≡ true) (lk : ordinal F low ≤ ordinal F k) (bk : ordinal F b ≤ ordinal F k) where
       -- the greater of m and low, where m is between b and k
@@ -83,33 +83,33 @@ module _ (F : Format) where
           let z = greater-is m low v e in
           (between v (chosen (λ (p : ℕ). isNumber F p ≡ true) (leb (ordinal F m) (ordinal F low)) v low m e nl n) (ordinal F b) (ordinal F k) (finite-at b nb) (finite-at k nk) (omega arith) (omega arith), z)
 
-      shown : (short near level known : Bool) (m v w : ℕ) → short ≡ leb (ordinal F b) (sum F (ordinal F k) (mirrored F (ordinal F u))) → near ≡ leb (ordinal F b) (ordinal F low) → level ≡ leb (ordinal F k) (ordinal F b)
-          → known ≡ ((near || level) || not short) → m ≡ cond (not short) k b → v ≡ cond (leb (ordinal F m) (ordinal F low)) low m → w ≡ cond known v b → KnownEnd F low k u b (record { b = w; known = known })
-      shown false near level known m v w p q r s t e d =
+      shown : (short near level known : Bool) (m v : ℕ) → short ≡ leb (ordinal F b) (sum F (ordinal F k) (mirrored F (ordinal F u))) → near ≡ leb (ordinal F b) (ordinal F low) → level ≡ leb (ordinal F k) (ordinal F b)
+          → known ≡ ((near || level) || not short) → m ≡ cond (not short) k b → v ≡ cond (leb (ordinal F m) (ordinal F low)) low m → KnownEnd F low k u b (record { b = v; known = known })
+      shown false near level known m v p q r s t e =
           let g = greater-end m v (subst (λ (i : ℕ). isNumber F i ≡ true) (sym t) (number-of F k nk)) (omega (arith, ap (ordinal F) t)) (omega (arith, ap (ordinal F) t)) e in
-          settled known v w (s ∙ or-true near level) d (g .0) (at-gap (leb-false _ _ (sym p)) (omega (arith, g .1, ap (ordinal F) t)))
+          settled known v (s ∙ or-true near level) (g .0) (at-gap (leb-false _ _ (sym p)) (omega (arith, g .1, ap (ordinal F) t)))
         where
           or-true : (i j : Bool) → ((i || j) || true) ≡ true
           or-true true j = refl
           or-true false true = refl
           or-true false false = refl
-      shown true true level known m v w p q r s t e d =
+      shown true true level known m v p q r s t e =
           let g = greater-end m v (subst (λ (i : ℕ). isNumber F i ≡ true) (sym t) (number-of F b nb)) (omega (arith, ap (ordinal F) t)) (omega (arith, ap (ordinal F) t)) e in
           let l = leb-true (ordinal F b) (ordinal F low) (sym q) in
-          settled known v w s d (g .0) (at-low l (omega (arith, g .1, ap (ordinal F) t)))
-      shown true false true known m v w p q r s t e d =
+          settled known v s (g .0) (at-low l (omega (arith, g .1, ap (ordinal F) t)))
+      shown true false true known m v p q r s t e =
           let g = greater-end m v (subst (λ (i : ℕ). isNumber F i ≡ true) (sym t) (number-of F b nb)) (omega (arith, ap (ordinal F) t)) (omega (arith, ap (ordinal F) t)) e in
           let l = leb-true (ordinal F k) (ordinal F b) (sym r) in
           let n = leb-false (ordinal F b) (ordinal F low) (sym q) in
-          settled known v w s d (g .0) (at-sum l (omega (arith, g .1, ap (ordinal F) t)))
-      shown true false false known m v w p q r s t e d = unsettled known v w s d nb
+          settled known v s (g .0) (at-sum l (omega (arith, g .1, ap (ordinal F) t)))
+      shown true false false known m v p q r s t e = unsettled known v s (e ∙ ap (λ (t : Bool). cond t low m) (ap (λ (i : ℕ). leb (ordinal F i) (ordinal F low)) t ∙ sym q) ∙ t) nb
 
       -- as the code has it: s is k less u
-      pub known-end : (o s : ℕ) → Negates F u o → Adds F k o s → (short near level one known : Bool) (m v w : ℕ) → short ≡ leb (ordinal F b) (ordinal F s) → near ≡ leb (ordinal F b) (ordinal F low)
-          → level ≡ leb (ordinal F k) (ordinal F b) → one ≡ (near || level) → known ≡ (one || not short) → m ≡ cond (not short) k b → v ≡ cond (leb (ordinal F m) (ordinal F low)) low m → w ≡ cond known v b
-          → KnownEnd F low k u b (record { b = w; known = known })
-      known-end o s d a short near level one known m v w p q r i j =
-          shown short near level known m v w (p ∙ ap (leb (ordinal F b)) (a .is nk ∙ ap (sum F (ordinal F k)) (d .is))) q r (j ∙ ap (λ (t : Bool). t || not short) i)
+      pub known-end : (o s : ℕ) → Negates F u o → Adds F k o s → (short near level one known : Bool) (m v : ℕ) → short ≡ leb (ordinal F b) (ordinal F s) → near ≡ leb (ordinal F b) (ordinal F low)
+          → level ≡ leb (ordinal F k) (ordinal F b) → one ≡ (near || level) → known ≡ (one || not short) → m ≡ cond (not short) k b → v ≡ cond (leb (ordinal F m) (ordinal F low)) low m
+          → KnownEnd F low k u b (record { b = v; known = known })
+      known-end o s d a short near level one known m v p q r i j =
+          shown short near level known m v (p ∙ ap (leb (ordinal F b)) (a .is nk ∙ ap (sum F (ordinal F k)) (d .is))) q r (j ∙ ap (λ (t : Bool). t || not short) i)
 
   -- ---- a sum that makes b
   -- what is clipped into an interval lies inside it

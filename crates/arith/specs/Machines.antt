@@ -1,6 +1,6 @@
 -- Numbers by their patterns, as the machine's floats have them: binary64 where wide, else binary32. For contracts inside the crate; no public one cites it. Assumes nothing.
 use mathlib.Core.Path.{_≡_}
-use mathlib.Core.Bool.{Bool, true, cond}
+use mathlib.Core.Bool.{Bool, true, false, cond}
 use Prim.Native.Nat.{ℕ, _-_, _/_, _^_, _≤_, _<_}
 use lib.Dec.{ltb}
 use Rattle.ladder.specs.Magnitude.{magnitude}
@@ -15,6 +15,10 @@ machine wide = cond wide (binary 52 11) (binary 23 8)
 -- whether a pattern is a number's: finite or an infinity's
 abbrev pub isNumber : Format → ℕ → Bool
 isNumber F p = L.isNumber (F .fraction) (F .exponent) p
+
+-- a pattern has no bits beyond the width
+abbrev pub FitsWidth : Bool → ℕ → Type 0
+FitsWidth wide p = wide ≡ false → p < 2 ^ 32
 
 -- r is p plus q, where p is finite; it is a number in any case
 pub record Adds (F : Format) (p q r : ℕ) : Type 0 where

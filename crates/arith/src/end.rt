@@ -32,10 +32,7 @@ fn least_end(wide: bool, low: u64, k: u64, u: u64, b: u64) -> End
     let gap = !at_most(wide, b, add(wide, k, opposite(wide, u)));
     let known = either(either(at_most(wide, b, low), at_most(wide, k, b)), gap);
     let end = greater(wide, choose(gap, k, b), low);
-    End {
-        b: choose(known, end, b),
-        known,
-    }
+    End { b: end, known }
 }
 
 // Whether c with a number of i makes b.

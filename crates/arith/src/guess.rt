@@ -9,6 +9,8 @@ ghost use Rattle.arith.specs.Shortcuts.{Checks, Trims};
 use crate::interval::Interval;
 use crate::machine::add;
 use crate::machine::at_most;
+use crate::machine::below;
+use crate::machine::both;
 use crate::machine::choose;
 use crate::machine::either;
 use crate::machine::format_at;
@@ -36,21 +38,17 @@ fn check(wide: bool, c: u64, p: u64, q: u64) -> Checked
 {
     let format = format_at(wide);
     let m = size(wide, c);
-    if m == 0 {
-        return Checked { y: q, sure: false };
-    }
-    if format.infinity - 1 <= m {
-        return Checked { y: q, sure: false };
-    }
-    let positive = c < format.sign;
-    let after = choose(positive, c + 1, c - 1);
-    let before = choose(positive, c - 1, c + 1);
+    let inner = both(m != 0, m < format.infinity - 1);
+    let d = choose(inner, c, 1);
+    let positive = d < format.sign;
+    let after = choose(positive, d + 1, d - 1);
+    let before = choose(positive, d - 1, d + 1);
     let enough = at_most(wide, q, add(wide, c, p));
     let other = choose(enough, before, after);
     let reaches = at_most(wide, q, add(wide, other, p));
     Checked {
-        y: choose(enough, c, after),
-        sure: reaches != enough,
+        y: choose(enough, d, after),
+        sure: both(inner, reaches != enough),
     }
 }
 
@@ -67,7 +65,7 @@ pub(crate) fn trim(wide: bool, x: u64, a: u64, b: Interval, h: Interval) -> Pair
     let minus_b = opposite(wide, b.high);
     let up = add(wide, add(wide, b.low, opposite(wide, a)), h.low);
     let down = add(wide, add(wide, x, minus_b), h.high);
-    let guess = choose(enough, down, up);
+    let guess = choose(below(wide, s, b.low), up, down);
     let t = check(
         wide,
         guess,

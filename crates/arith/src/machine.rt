@@ -4,7 +4,7 @@ ghost use mathlib.Core.Bool.{_&&_, _||_, true, cond};
 ghost use Prim.Native.Nat.{_+_, _-_};
 ghost use lib.Dec.{leb, ltb};
 ghost use Rattle.arith.specs.Formats.{isFinite, ordinal, pattern};
-ghost use Rattle.arith.specs.Machines.{machine, isNumber, Adds, Negates, sizeOf};
+ghost use Rattle.arith.specs.Machines.{machine, isNumber, FitsWidth, Adds, Negates, sizeOf};
 use crate::format::Format;
 use crate::format::format_of;
 
@@ -61,6 +61,17 @@ pub(crate) fn at_most(wide: bool, p: u64, q: u64) -> bool
     f32::from_bits(p as u32) <= f32::from_bits(q as u32)
 }
 
+// Whether p is less than q.
+pub(crate) fn below(wide: bool, p: u64, q: u64) -> bool
+    requires { ⌜ (isNumber (machine wide) p ≡ true) × (isNumber (machine wide) q ≡ true) ⌝ }
+    ensures { λ r. ⌜ r ≡ ltb (ordinal (machine wide) p) (ordinal (machine wide) q) ⌝ }
+{
+    if wide {
+        return f64::from_bits(p) < f64::from_bits(q);
+    }
+    f32::from_bits(p as u32) < f32::from_bits(q as u32)
+}
+
 // The other sign at width 64.
 fn opposite_binary64(p: u64) -> u64
     ensures { λ r. ⌜ r ≡ cond (ltb p 0x8000000000000000) (p + 0x8000000000000000) (p - 0x8000000000000000) ⌝ }
@@ -92,15 +103,54 @@ pub(crate) fn opposite(wide: bool, p: u64) -> u64
     opposite_binary32(p as u32) as u64
 }
 
-// The pattern without its sign.
-pub(crate) fn size(wide: bool, p: u64) -> u64
-    ensures { λ r. ⌜ r ≡ sizeOf (machine wide) p ⌝ }
+// The pattern without its sign at width 64.
+fn size_binary64(p: u64) -> u64
+    ensures { λ r. ⌜ r ≡ cond (ltb p 0x8000000000000000) p (p - 0x8000000000000000) ⌝ }
 {
-    let format = format_at(wide);
-    if p < format.sign {
+    if p < 0x8000_0000_0000_0000 {
         return p;
     }
-    p - format.sign
+    p - 0x8000_0000_0000_0000
+}
+
+// The pattern without its sign at width 32.
+fn size_binary32(p: u32) -> u32
+    ensures { λ r. ⌜ r ≡ cond (ltb p 0x80000000) p (p - 0x80000000) ⌝ }
+{
+    if p < 0x8000_0000 {
+        return p;
+    }
+    p - 0x8000_0000
+}
+
+// The pattern without its sign.
+pub(crate) fn size(wide: bool, p: u64) -> u64
+    requires { ⌜ FitsWidth wide p ⌝ }
+    ensures { λ r. ⌜ r ≡ sizeOf (machine wide) p ⌝ }
+{
+    if wide {
+        return size_binary64(p);
+    }
+    size_binary32(p as u32) as u64
+}
+
+// Whether a pattern has no bits beyond the width.
+pub(crate) fn fits(wide: bool, p: u64) -> bool
+    ensures { λ r. ⌜ (r ≡ true → FitsWidth wide p) ⌝ }
+{
+    if wide {
+        return true;
+    }
+    p < 0x1_0000_0000
+}
+
+// Whether such a pattern is finite.
+pub(crate) fn finite_at(wide: bool, p: u64) -> bool
+    requires { ⌜ FitsWidth wide p ⌝ }
+    ensures { λ r. ⌜ r ≡ isFinite (machine wide) p ⌝ }
+{
+    let format = format_at(wide);
+    size(wide, p) < format.infinity
 }
 
 // The lesser of two.

@@ -4,7 +4,7 @@ ghost use mathlib.Core.Bool.{_&&_, true};
 ghost use lib.Dec.{leb};
 ghost use Rattle.arith.specs.Formats.{isKnown, formatOf, isFinite, ordinal};
 ghost use Rattle.arith.specs.Intervals.{endsFinite, rangeOf, isOrdered, intervalOf};
-ghost use Rattle.arith.specs.Machines.{machine, isNumber};
+ghost use Rattle.arith.specs.Machines.{machine, isNumber, FitsWidth};
 ghost use Rattle.arith.specs.Narrows.{narrowIn};
 ghost use Rattle.arith.specs.Shortcuts.{Trimmings, Gridded, Judges, Answers};
 use crate::end::attained;
@@ -16,11 +16,11 @@ use crate::guess::Pair;
 use crate::guess::trim;
 use crate::half_ulp::half_gap_below;
 use crate::interval::Interval;
-use crate::interval::ends_finite;
 use crate::machine::at_most;
 use crate::machine::both;
 use crate::machine::canonical;
-use crate::machine::format_at;
+use crate::machine::finite_at;
+use crate::machine::fits;
 use crate::machine::opposite;
 
 // Whether two sums are corners, or no sum is inside b.
@@ -52,14 +52,34 @@ fn in_order(wide: bool, x: Interval, a: Interval, b: Interval) -> bool
     )
 }
 
+// Whether the ends have no bits beyond the width.
+fn ends_fit(wide: bool, i: Interval) -> bool
+    ensures { λ r. ⌜ (r ≡ true → (FitsWidth wide (i .low)) × (FitsWidth wide (i .high))) ⌝ }
+{
+    both(fits(wide, i.low), fits(wide, i.high))
+}
+
+// Whether such ends are finite.
+fn ends_finite_at(wide: bool, i: Interval) -> bool
+    requires { ⌜ (FitsWidth wide (i .low)) × (FitsWidth wide (i .high)) ⌝ }
+    ensures { λ r. ⌜ r ≡ endsFinite (machine wide) i ⌝ }
+{
+    both(finite_at(wide, i.low), finite_at(wide, i.high))
+}
+
 // Whether three intervals have finite ends.
 fn all_finite(wide: bool, x: Interval, a: Interval, b: Interval) -> bool
     ensures { λ r. ⌜ (r ≡ true → (endsFinite (machine wide) x ≡ true) × (endsFinite (machine wide) a ≡ true) × (endsFinite (machine wide) b ≡ true)) ⌝ }
 {
-    let format = format_at(wide);
+    if !both(
+        both(ends_fit(wide, x), ends_fit(wide, a)),
+        ends_fit(wide, b),
+    ) {
+        return false;
+    }
     both(
-        both(ends_finite(format, x), ends_finite(format, a)),
-        ends_finite(format, b),
+        both(ends_finite_at(wide, x), ends_finite_at(wide, a)),
+        ends_finite_at(wide, b),
     )
 }
 

@@ -41,12 +41,9 @@ greater-requires c κs =
     let F = machine (z .args .wide) in
     (chosen (λ (p : ℕ). isNumber F p ≡ true) (not (c .before .before .before .before .before .at-most .result)) (c .choose .result) (z .args .k) (z .args .b) (c .choose .ensures) (number-of F (z .args .k) (z .pre .1)) (number-of F (z .args .b) (z .pre .3)), z .pre .0)
 
-choose-requires-2 : tie.Need-choose-requires-2
-choose-requires-2 c κs = search needs
-
 returns : tie.Need-returns
 returns c =
-    let d = c .before .before .before in
+    let d = c .before .before in
     let h = d .before .before .before .before in
     let z = h .before .before .before in
     known-end (machine (z .args .wide)) (z .args .low) (z .args .k) (z .args .u) (z .args .b) (z .pre .0) (z .pre .1) (z .pre .3) (z .pre .4) (z .pre .5)
@@ -59,17 +56,15 @@ returns c =
     (d .before .before .at-most3 .result)
     (d .before .either .result)
     (d .either2 .result)
-    (c .before .before .choose .result)
-    (c .before .greater .result)
-    (c .choose2 .result)
+    (c .before .choose .result)
+    (c .greater .result)
     (h .at-most .ensures)
     (d .before .before .before .at-most2 .ensures)
     (d .before .before .at-most3 .ensures)
     (d .before .either .ensures)
     (d .either2 .ensures)
-    (c .before .before .choose .ensures)
-    (c .before .greater .ensures)
-    (c .choose2 .ensures)
+    (c .before .choose .ensures)
+    (c .greater .ensures)
 
 pub least-end-spec : {M : Type 1} → statement M
 least-end-spec =
@@ -84,5 +79,4 @@ least-end-spec =
     either-requires-2
     choose-requires
     greater-requires
-    choose-requires-2
     returns)

@@ -1,16 +1,16 @@
 -- `arith::end::witness` meets its contract. Assumes nothing.
-use borrow.Author.Needs.{needs}
 use Rattle.arith.specs.Machines.{machine}
 use Rattle.arith.proofs.Intervals.{ends-both}
+use Rattle.arith.proofs.Machines.{finite-width}
 use Rattle.arith.proofs.KnownEnds.{low-made, swapped}
 use Rattle.arith.proofs.end.witness.Statement.{statement}
 use Rattle.arith.proofs.end.witness.Tie as tie
 
 size-requires : tie.Need-size-requires
-size-requires c κs = search needs
+size-requires c κs = finite-width (c .args .wide) _ (ends-both (machine (c .args .wide)) (c .args .a) (c .pre .1) .0)
 
 size-requires-2 : tie.Need-size-requires-2
-size-requires-2 c κs = search needs
+size-requires-2 c κs = let z = c .before in finite-width (z .args .wide) _ (ends-both (machine (z .args .wide)) (z .args .x) (z .pre .0) .0)
 
 reaches-requires : tie.Need-reaches-requires
 reaches-requires c κs =

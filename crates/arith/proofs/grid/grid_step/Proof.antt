@@ -7,8 +7,8 @@ use lib.Dec.{leb, ltb}
 use lib.Pow.{pow-mono}
 use borrow.Author.Needs.{needs}
 use Rattle.arith.specs.declared.format.Format.{Format}
-use Rattle.arith.specs.Machines.{machine, HalfUlp}
-use Rattle.arith.proofs.Machines.{sound-machine}
+use Rattle.arith.specs.Machines.{machine, FitsWidth, HalfUlp}
+use Rattle.arith.proofs.Machines.{sound-machine, chosen, finite-width}
 use Rattle.arith.proofs.HalfUlps.{sign-at}
 use Rattle.arith.proofs.Gridding.{size-chosen, gridded}
 use Rattle.arith.proofs.grid.grid_step.Statement.{statement}
@@ -24,10 +24,16 @@ choose-requires-2 : tie.Need-choose-requires-2
 choose-requires-2 c κs = search needs
 
 size-requires : tie.Need-size-requires
-size-requires c κs = search needs
+size-requires c κs =
+    let z = c .before .before .before .before in
+    let g = z .before in
+    chosen (FitsWidth (g .args .wide)) (ltb (g .args .p .x) (z .format-at .result .sign)) _ _ _ (c .before .choose .ensures) (finite-width _ _ (g .pre .0)) (finite-width _ _ (g .pre .2))
 
 size-requires-2 : tie.Need-size-requires-2
-size-requires-2 c κs = search needs
+size-requires-2 c κs =
+    let z = c .before .before .before .before .before in
+    let g = z .before in
+    chosen (FitsWidth (g .args .wide)) (ltb (g .args .p .x) (z .format-at .result .sign)) _ _ _ (c .before .choose2 .ensures) (finite-width _ _ (g .pre .1)) (finite-width _ _ (g .pre .3))
 
 min-requires : tie.Need-min-requires
 min-requires c κs = search needs

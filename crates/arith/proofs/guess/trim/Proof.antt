@@ -69,6 +69,9 @@ add-requires-4 c κs = let z = given (c .before .before .before .before .before 
 add-requires-5 : tie.Need-add-requires-5
 add-requires-5 c κs = (c .add4 .ensures .number, given (c .before .before .before .before .before .before .before .before .before) .h-high)
 
+below-requires : tie.Need-below-requires
+below-requires c κs = (c .before .before .before .before .before .before .before .before .before .add .ensures .number, given (c .before .before .before .before .before .before .before .before .before .before) .low)
+
 choose-requires : tie.Need-choose-requires
 choose-requires c κs = search needs
 
@@ -80,18 +83,18 @@ choose-requires-3 c κs = search needs
 
 check-requires : tie.Need-check-requires
 check-requires c κs =
-    let z = c .before .before .before .before .before .before .before .before .before .before .before .before .before in
+    let z = c .before .before .before .before .before .before .before .before .before .before .before .before .before .before in
     let g = given z in
     let F = machine (z .args .wide) in
-    let enough = c .before .before .before .before .before .before .before .before .before .before .before .at-most .result in
-    let up = c .before .before .before .before .before .add3 in
-    let down = c .before .before .before .add5 in
-    let x = c .before .before .before .before .before .before .before .before .before .opposite in
-    let b = c .before .before .before .before .before .before .before .before .opposite2 in
+    let enough = c .before .before .before .before .before .before .before .before .before .before .before .before .at-most .result in
+    let up = c .before .before .before .before .before .before .add3 in
+    let down = c .before .before .before .before .add5 in
+    let x = c .before .before .before .before .before .before .before .before .before .before .opposite in
+    let b = c .before .before .before .before .before .before .before .before .before .opposite2 in
     let s = c .before .before .choose in
     let t = c .before .choose2 in
     let u = c .choose3 in (
-      chosen (λ (n : ℕ). isNumber F n ≡ true) enough (s .result) (down .result) (up .result) (s .ensures) (down .ensures .number) (up .ensures .number),
+      chosen (λ (n : ℕ). isNumber F n ≡ true) (c .before .before .before .below .result) (s .result) (up .result) (down .result) (s .ensures) (up .ensures .number) (down .ensures .number),
       chosen (λ (n : ℕ). isFinite F n ≡ true) (not enough) (t .result) (z .args .a) (x .result) (t .ensures) (z .pre .1) (x .ensures .finite (z .pre .0)),
       chosen (λ (n : ℕ). isFinite F n ≡ true) (not enough) (u .result) (z .args .b .low) (b .result) (u .ensures) (g .low-finite) (b .ensures .finite (g .high-finite)),
     )
@@ -101,7 +104,7 @@ choose-requires-4 c κs = search needs
 
 opposite-requires-4 : tie.Need-opposite-requires-4
 opposite-requires-4 c κs =
-    let F = machine (c .before .before .before .before .before .before .before .before .before .before .before .before .before .before .before .args .wide) in
+    let F = machine (c .before .before .before .before .before .before .before .before .before .before .before .before .before .before .before .before .args .wide) in
     finite-number (F .fraction) (F .exponent) (c .before .check .result .y) (c .before .check .ensures .finite)
 
 choose-requires-5 : tie.Need-choose-requires-5
@@ -109,10 +112,10 @@ choose-requires-5 c κs = search needs
 
 add-requires-6 : tie.Need-add-requires-6
 add-requires-6 c κs =
-    let z = c .before .before .before .before .before .before .before .before .before .before .before .before .before .before .before .before .before in
+    let z = c .before .before .before .before .before .before .before .before .before .before .before .before .before .before .before .before .before .before in
     let F = machine (z .args .wide) in
-    let enough = c .before .before .before .before .before .before .before .before .before .before .before .before .before .before .before .at-most .result in
-    let upto = c .before .before .before .before .before .before .before .before .before .before .before .before .before .before .at-most2 .result in
+    let enough = c .before .before .before .before .before .before .before .before .before .before .before .before .before .before .before .before .at-most .result in
+    let upto = c .before .before .before .before .before .before .before .before .before .before .before .before .before .before .before .at-most2 .result in
     let t = c .before .before .before .check in
     let o = c .before .opposite4 in
     let p = c .before .before .choose4 in
@@ -126,13 +129,13 @@ either-requires c κs = search needs
 
 returns : tie.Need-returns
 returns c =
-    let z = c .before .before .before .before .before .before .before .before .before .before .before .before .before .before .before .before .before .before .before in
+    let z = c .before .before .before .before .before .before .before .before .before .before .before .before .before .before .before .before .before .before .before .before in
     let y = z .args in
-    let s = c .before .before .before .before .before .before .before .before .before .before .before .before .before .before .before .before .before .before .add in
-    let enough = c .before .before .before .before .before .before .before .before .before .before .before .before .before .before .before .before .before .at-most in
-    let upto = c .before .before .before .before .before .before .before .before .before .before .before .before .before .before .before .before .at-most2 in
-    let x = c .before .before .before .before .before .before .before .before .before .before .before .before .before .before .before .opposite in
-    let b = c .before .before .before .before .before .before .before .before .before .before .before .before .before .before .opposite2 in
+    let s = c .before .before .before .before .before .before .before .before .before .before .before .before .before .before .before .before .before .before .before .add in
+    let enough = c .before .before .before .before .before .before .before .before .before .before .before .before .before .before .before .before .before .before .at-most in
+    let upto = c .before .before .before .before .before .before .before .before .before .before .before .before .before .before .before .before .before .at-most2 in
+    let x = c .before .before .before .before .before .before .before .before .before .before .before .before .before .before .before .before .opposite in
+    let b = c .before .before .before .before .before .before .before .before .before .before .before .before .before .before .before .opposite2 in
     let g = c .before .before .before .before .before .before .before .choose2 in
     let h = c .before .before .before .before .before .before .choose3 in
     let t = c .before .before .before .before .before .check in
@@ -159,6 +162,7 @@ trim-spec =
     add-requires-3
     add-requires-4
     add-requires-5
+    below-requires
     choose-requires
     choose-requires-2
     choose-requires-3

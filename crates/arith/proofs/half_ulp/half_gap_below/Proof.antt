@@ -7,7 +7,7 @@ use lib.Dec.{ltb}
 use borrow.Author.Needs.{needs}
 use Rattle.arith.specs.Machines.{machine}
 use Rattle.arith.proofs.Formats.{infinity-lt}
-use Rattle.arith.proofs.Machines.{sound-machine, machine-some}
+use Rattle.arith.proofs.Machines.{sound-machine, machine-some, finite-width}
 use Rattle.arith.proofs.HalfUlps.{low-finite, size-lt}
 use Rattle.arith.proofs.half_ulp.half_gap_below.Statement.{statement}
 use Rattle.arith.proofs.half_ulp.half_gap_below.Tie as tie
@@ -25,7 +25,7 @@ format-at-requires : tie.Need-format-at-requires
 format-at-requires c κs = search needs
 
 size-requires : tie.Need-size-requires
-size-requires c κs = search needs
+size-requires c κs = finite-width _ _ (c .before .pre)
 
 choose-requires : tie.Need-choose-requires
 choose-requires c κs = search needs

@@ -3,9 +3,8 @@ use native.Mathlib.Omega.{arith}
 use lib.Ieee.{binary32, binary64, ofBits, add}
 use lib.Ieee.Fits.{add-fits}
 use lib.Ieee.Bits.{toBits-lt}
-use Rattle.ladder.specs.Ordinal.{sign}
 use Rattle.arith.specs.Machines.{machine}
-use Rattle.arith.proofs.Machines.{wide-is, narrow-is, number-of, fits, number, adds-number, adds}
+use Rattle.arith.proofs.Machines.{wide-is, narrow-is, number-of, number, adds-number, adds, fits-width, finite-width}
 use Rattle.arith.proofs.machine.add.Statement.{statement}
 use Rattle.arith.proofs.machine.add.Tie as tie
 
@@ -22,15 +21,13 @@ returns : tie.Need-returns
 returns c = adds binary64 _ (wide-is _ (c .if1 .taken)) _ _ (c .before .pre .0) (c .before .pre .1)
 
 cast-result : tie.Need-cast-result
-unfolding sign
-cast-result c = omega (arith, fits binary32 _ (narrow-is _ (c .if1 .left)) _ (c .before .pre .0))
+cast-result c = omega (arith, fits-width _ _ (c .before .pre .0) (c .if1 .left))
 
 float-from-bits-result-3 : tie.Need-float-from-bits-result-3
 float-from-bits-result-3 c = number binary32 _ (narrow-is _ (c .if1 .left)) _ (c .before .pre .0)
 
 cast-result-2 : tie.Need-cast-result-2
-unfolding sign
-cast-result-2 c = omega (arith, fits binary32 _ (narrow-is _ (c .if1 .left)) _ (number-of (machine (c .before .args .wide)) _ (c .before .pre .1)))
+cast-result-2 c = omega (arith, finite-width _ _ (c .before .pre .1) (c .if1 .left))
 
 float-from-bits-result-4 : tie.Need-float-from-bits-result-4
 float-from-bits-result-4 c = number binary32 _ (narrow-is _ (c .if1 .left)) _ (number-of (machine (c .before .args .wide)) _ (c .before .pre .1))

@@ -1,8 +1,7 @@
 -- `arith::machine::at_most` meets its contract. Assumes nothing.
 use native.Mathlib.Omega.{arith}
 use lib.Ieee.{binary32, binary64}
-use Rattle.ladder.specs.Ordinal.{sign}
-use Rattle.arith.proofs.Machines.{wide-is, narrow-is, fits, number, compares}
+use Rattle.arith.proofs.Machines.{wide-is, narrow-is, number, compares, fits-width}
 use Rattle.arith.proofs.machine.at_most.Statement.{statement}
 use Rattle.arith.proofs.machine.at_most.Tie as tie
 
@@ -16,15 +15,13 @@ returns : tie.Need-returns
 returns c = compares binary64 _ (wide-is _ (c .if1 .taken)) _ _ (c .before .pre .0) (c .before .pre .1)
 
 cast-result : tie.Need-cast-result
-unfolding sign
-cast-result c = omega (arith, fits binary32 _ (narrow-is _ (c .if1 .left)) _ (c .before .pre .0))
+cast-result c = omega (arith, fits-width _ _ (c .before .pre .0) (c .if1 .left))
 
 float-from-bits-result-3 : tie.Need-float-from-bits-result-3
 float-from-bits-result-3 c = number binary32 _ (narrow-is _ (c .if1 .left)) _ (c .before .pre .0)
 
 cast-result-2 : tie.Need-cast-result-2
-unfolding sign
-cast-result-2 c = omega (arith, fits binary32 _ (narrow-is _ (c .if1 .left)) _ (c .before .pre .1))
+cast-result-2 c = omega (arith, fits-width _ _ (c .before .pre .1) (c .if1 .left))
 
 float-from-bits-result-4 : tie.Need-float-from-bits-result-4
 float-from-bits-result-4 c = number binary32 _ (narrow-is _ (c .if1 .left)) _ (c .before .pre .1)

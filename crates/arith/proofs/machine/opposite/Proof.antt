@@ -3,7 +3,7 @@ use native.Mathlib.Omega.{arith}
 use borrow.Author.Needs.{needs}
 use lib.Ieee.{binary32, binary64}
 use Rattle.ladder.specs.Ordinal.{sign}
-use Rattle.arith.proofs.Machines.{wide-is, narrow-is, fits, negates}
+use Rattle.arith.proofs.Machines.{wide-is, narrow-is, fits-width, negates}
 use Rattle.arith.proofs.machine.opposite.Statement.{statement}
 use Rattle.arith.proofs.machine.opposite.Tie as tie
 
@@ -15,8 +15,7 @@ unfolding sign
 returns c = negates binary64 _ (wide-is _ (c .before .if1 .taken)) _ _ (c .before .before .pre) (c .opposite-binary64 .ensures)
 
 cast-opposite-binary32 : tie.Need-cast-opposite-binary32
-unfolding sign
-cast-opposite-binary32 c = omega (arith, fits binary32 _ (narrow-is _ (c .if1 .left)) _ (c .before .pre))
+cast-opposite-binary32 c = omega (arith, fits-width _ _ (c .before .pre) (c .if1 .left))
 
 opposite-binary32-requires : tie.Need-opposite-binary32-requires
 opposite-binary32-requires c κs = search needs
