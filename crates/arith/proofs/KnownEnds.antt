@@ -12,7 +12,7 @@ use Rattle.ladder.specs.Search as S
 use Rattle.ladder.specs.Solution.{In}
 use Rattle.ladder.proofs.Cases.{le-or-lt}
 use Rattle.ladder.proofs.Ordinals.{ordinal-finite, finite-twice}
-use Rattle.ladder.proofs.Numbers.{finite-number, number-finite}
+use Rattle.ladder.proofs.Numbers.{number-finite}
 use Rattle.ladder.proofs.Sum.{sum-comm, sum-mono, sum-mirror}
 use Rattle.ladder.proofs.LeastSum.{lows-least, floor-least}
 use Rattle.ladder.proofs.Grid.{grid-low}
@@ -24,7 +24,7 @@ use Rattle.arith.specs.declared.guess.Pair.{Pair}
 use Rattle.arith.specs.declared.«end».End.{End}
 use Rattle.arith.specs.Formats.{Sound, isFinite, Finite, ordinal, sum, mirrored}
 use Rattle.arith.specs.Intervals.{Bounded, endsFinite, rangeOf, span, reflected}
-use Rattle.arith.specs.Machines.{machine, isNumber, Adds, Negates}
+use Rattle.arith.specs.Machines.{isNumber, Adds, Negates}
 use Rattle.arith.specs.Searches.{HasB}
 use Rattle.arith.specs.Shortcuts.{xLeft, aLeft, CornersOf, Known, at-low, at-sum, at-gap, KnownEnd, LowEnd, HighEnd, Reached}
 use Rattle.arith.proofs.Formats.{both}

@@ -1,7 +1,7 @@
--- The narrowing by a few sums: what two trims show of it, and the answer by b's ends. Rests on `ladder`'s Trimming, Grid and LeastSum.
+-- The narrowing by a few sums: what two trims show of it, and the answer by b's ends. Rests on `ladder`'s Trimming and Grid.
 use mathlib.Core.Path.{_≡_, refl, ap, subst}
 use mathlib.Core.Logic.{_⊎_, inl, inr}
-use mathlib.Core.Bool.{Bool, true, false, not, cond, _&&_, true≢false}
+use mathlib.Core.Bool.{Bool, true, false, _&&_, true≢false}
 use Prim.Native.Nat.{ℕ, _≤_, _<_}
 use native.Mathlib.Nat.{le-refl}
 use native.Mathlib.Omega.{arith}
@@ -11,10 +11,8 @@ use Rattle.ladder.specs.Solution.{Interval, In}
 use Rattle.ladder.specs.Narrowing as N
 use Rattle.ladder.specs.Search as S
 use Rattle.ladder.proofs.Ordinals.{ordinal-finite}
-use Rattle.ladder.proofs.Sum.{sum-comm}
 use Rattle.ladder.proofs.Assembly.{never-x}
 use Rattle.ladder.proofs.Extremes.{spans-of}
-use Rattle.ladder.proofs.LeastSum.{floor-least}
 use Rattle.ladder.proofs.Grid.{grid-low, grid-high}
 use Rattle.ladder.proofs.Trimming.{trimmed-never-x, trimmed-never-a, trimmed-none, trimmed-ends}
 use Rattle.arith.specs.declared.format.Format.{Format}
@@ -28,16 +26,20 @@ use Rattle.arith.specs.Formats.{Sound, isFinite, Finite, ordinal, sum, m
 use Rattle.arith.specs.Intervals.{endsFinite, isOrdered, rangeOf, intervalOf, span}
 use Rattle.arith.specs.Narrows.{narrowing, narrowAnswer, narrowFinite, narrowIn}
 use Rattle.arith.specs.Searches.{HasB}
-use Rattle.arith.specs.Shortcuts.{Trims, Trimmings, xLeft, aLeft, leftX, leftA, Gridded, Passes, over, under, Corners, CornersOf, LowEnd, HighEnd, Reached}
-use Rattle.arith.proofs.Formats.{both}
+use Rattle.arith.specs.Shortcuts.{Trimmings, xLeft, aLeft, leftX, leftA, Gridded, Passes, over, under, Corners, CornersOf, LowEnd, HighEnd, Reached}
 use Rattle.arith.proofs.Intervals.{ends-both}
 use Rattle.arith.proofs.Refusing.{passed}
 
 -- a test of two parts that fails
-pub not-both : (p q : Bool) → (p && q) ≡ false → (p ≡ false) ⊎ (q ≡ false)
+not-both : (p q : Bool) → (p && q) ≡ false → (p ≡ false) ⊎ (q ≡ false)
 not-both true true e = absurd (true≢false e)
 not-both true false e = inr e
 not-both false q e = inl e
+
+-- a flag is set or not
+by-cases : {L : Type 0} (k : Bool) → (k ≡ true → L) → (k ≡ false → L) → L
+by-cases true g h = g refl
+by-cases false g h = h refl
 
 module _ (F : Format) (ok : Sound F) (x a b : I.Interval) where
   abbrev f : ℕ
@@ -112,24 +114,10 @@ module _ (F : Format) (b : I.Interval) (p q : Pair) (o : ordinal F (b .low) ≤ 
   reached-b v l h r = record { x = r .y; a = r .z; solution = record { x-in = r .x-in; a-in = r .a-in; b-in = record { low = l; high = h }; is = r .is } }
 
   pub low-least : (t : End) → LowEnd F p q b t → (t .known ≡ false → Reached F (leftX p q) (leftA p q) (b .low)) → S.Least (HasB F (xLeft F p q) (aLeft F p q) (rangeOf F b)) (ordinal F (t .b))
-  low-least t l w = go (t .known) (l .known) (λ h. (l .own h, w h))
-    where
-      P : ℕ → Type 0
-      P = HasB F (xLeft F p q) (aLeft F p q) (rangeOf F b)
-
-      go : (k : Bool) → (k ≡ true → S.Least P (ordinal F (t .b))) → (k ≡ false → (ordinal F (t .b) ≡ ordinal F (b .low)) × Reached F (leftX p q) (leftA p q) (b .low)) → S.Least P (ordinal F (t .b))
-      go true g h = g refl
-      go false g h = let r = h refl in rw (r .0) (record { holds = reached-b (b .low) (le-refl _) o (r .1); least = λ y v. v .solution .b-in .low })
+  low-least t l w = by-cases (t .known) (l .known) (λ h. rw (l .own h) (record { holds = reached-b (b .low) (le-refl _) o (w h); least = λ y v. v .solution .b-in .low }))
 
   pub high-greatest : (t : End) → HighEnd F p q b t → (t .known ≡ false → Reached F (leftX p q) (leftA p q) (b .high)) → S.Greatest (HasB F (xLeft F p q) (aLeft F p q) (rangeOf F b)) (ordinal F (t .b))
-  high-greatest t l w = go (t .known) (l .known) (λ h. (l .own h, w h))
-    where
-      P : ℕ → Type 0
-      P = HasB F (xLeft F p q) (aLeft F p q) (rangeOf F b)
-
-      go : (k : Bool) → (k ≡ true → S.Greatest P (ordinal F (t .b))) → (k ≡ false → (ordinal F (t .b) ≡ ordinal F (b .high)) × Reached F (leftX p q) (leftA p q) (b .high)) → S.Greatest P (ordinal F (t .b))
-      go true g h = g refl
-      go false g h = let r = h refl in rw (r .0) (record { holds = reached-b (b .high) o (le-refl _) (r .1); most = λ y v. v .solution .b-in .high })
+  high-greatest t l w = by-cases (t .known) (l .known) (λ h. rw (l .own h) (record { holds = reached-b (b .high) o (le-refl _) (w h); most = λ y v. v .solution .b-in .high }))
 
 -- ---- what the trims take
 module _ (F : Format) (ok : Sound F) (x a b : I.Interval) (n : (endsFinite F x ≡ true) × (endsFinite F a ≡ true) × (endsFinite F b ≡ true)) (o : (isOrdered (rangeOf F x) ≡ true) × (isOrdered (rangeOf F a) ≡ true) × (isOrdered (rangeOf F b) ≡ true)) where

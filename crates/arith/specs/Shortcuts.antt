@@ -1,6 +1,6 @@
 -- The narrowing by a few sums of the machine: each step by what holds of it where it is sure. For contracts inside the crate; no public one cites it. Assumes nothing.
 use mathlib.Core.Path.{_≡_}
-use mathlib.Core.Bool.{Bool, true, false, cond}
+use mathlib.Core.Bool.{true, false}
 use Prim.Native.Nat.{ℕ, _≤_, _<_}
 use Rattle.ladder.specs.Solution.{In}
 use Rattle.ladder.specs.Search as S
@@ -43,12 +43,12 @@ pub record Trims (F : Format) (x a : ℕ) (b : Interval) (t : Pair) : Type 0 whe
 abbrev pub PairFinite : Format → Pair → Type 0
 PairFinite F p = (isFinite F (p .x) ≡ true) × (isFinite F (p .a) ≡ true)
 
--- p is of x's low and a's high end, q of a's low and x's high end
+-- p trims x's low and a's high end, q a's low and x's high end
 pub record Trimmings (F : Format) (x a b : Interval) (p q : Pair) : Type 0 where
   pub first : Trims F (x .low) (a .high) b p
   pub second : Trims F (a .low) (x .high) b q
 
--- what they leave of x, by patterns
+-- what they leave of x
 abbrev pub leftX : Pair → Pair → Interval
 leftX p q = record { low = p .x; high = q .a }
 
@@ -56,13 +56,13 @@ leftX p q = record { low = p .x; high = q .a }
 abbrev pub leftA : Pair → Pair → Interval
 leftA p q = record { low = q .x; high = p .a }
 
--- what they leave of x, by ordinals
+-- the same by ordinals
 abbrev pub xLeft : Format → Pair → Pair → Range
-xLeft F p q = record { low = ordinal F (p .x); high = ordinal F (q .a) }
+xLeft F p q = rangeOf F (leftX p q)
 
 -- and of a
 abbrev pub aLeft : Format → Pair → Pair → Range
-aLeft F p q = record { low = ordinal F (q .x); high = ordinal F (p .a) }
+aLeft F p q = rangeOf F (leftA p q)
 
 -- u is zero, or every value of what they leave is a multiple of it
 abbrev pub Gridded : Format → Pair → Pair → ℕ → Type 0
@@ -73,7 +73,7 @@ pub data Passes (F : Format) (s u : ℕ) (b : Interval) : Type 0 where
   over : Finite F (ordinal F s) → ordinal F (b .high) < ordinal F s → sum F (ordinal F s) (mirrored F (ordinal F u)) < ordinal F (b .low) → Passes F s u b
   under : Finite F (ordinal F s) → ordinal F s < ordinal F (b .low) → ordinal F (b .high) < sum F (ordinal F s) (ordinal F u) → Passes F s u b
 
--- both sums are corners: what is left is in order, and they are inside b
+-- p and q are corners: what they leave is in order, and their sums are inside b
 pub record Corners (F : Format) (b : Interval) (p q : Pair) : Type 0 where
   pub x-order : ordinal F (p .x) ≤ ordinal F (q .a)
   pub a-order : ordinal F (q .x) ≤ ordinal F (p .a)
@@ -93,7 +93,7 @@ pub record CornersOf (F : Format) (p q : Pair) (u : ℕ) (b : Interval) : Type 0
   pub grid : Gridded F p q u
   pub corners : Corners F b p q
 
--- corners, or that there is no triple
+-- sure bounds that are corners, or that there is no triple; else nothing is said
 abbrev pub Judges : Format → Interval → Interval → Interval → Pair → Pair → Verdict → Type 0
 Judges F x a b p q Verdict.Corners = (p .sure ≡ true) × (q .sure ≡ true) × Corners F b p q
 Judges F x a b p q Verdict.None = N.none ≡ narrowing F (rangeOf F x) (rangeOf F a) (rangeOf F b)
@@ -133,7 +133,7 @@ pub record HighEnd (F : Format) (p q : Pair) (b : Interval) (t : End) : Type 0 w
   pub own : t .known ≡ false → ordinal F (t .b) ≡ ordinal F (b .high)
 
 -- ---- the whole
--- the answer, where there is one
+-- the answer n, where one is given
 abbrev pub Answers : Narrowed → Shortcut → Type 0
 Answers n (Shortcut.Ends x a b) = Narrowed.Ends x a b ≡ n
 Answers n Shortcut.None = Narrowed.Refused (refusal 11) ≡ n

@@ -31,7 +31,7 @@ pub(crate) struct Pair {
     pub(crate) sure: bool,
 }
 
-// The least y with a sum with p of at least q, if that is c or the number after c.
+// The least y with a sum with p of at least q, if that is c or the number after c. Where c is zero or has no finite number after it, 1 stands in for it and nothing is sure.
 fn check(wide: bool, c: u64, p: u64, q: u64) -> Checked
     requires { ⌜ (isNumber (machine wide) c ≡ true) × (isFinite (machine wide) p ≡ true) × (isFinite (machine wide) q ≡ true) ⌝ }
     ensures { λ t. ⌜ Checks (machine wide) p q t ⌝ }
@@ -65,6 +65,7 @@ pub(crate) fn trim(wide: bool, x: u64, a: u64, b: Interval, h: Interval) -> Pair
     let minus_b = opposite(wide, b.high);
     let up = add(wide, add(wide, b.low, opposite(wide, a)), h.low);
     let down = add(wide, add(wide, x, minus_b), h.high);
+    // a comparison of its own: the compiler then makes no branch of it
     let guess = choose(below(wide, s, b.low), up, down);
     let t = check(
         wide,

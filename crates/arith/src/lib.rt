@@ -1,4 +1,4 @@
-// Arithmetic on binary floating-point patterns at both widths: the forward sum, intervals and the narrowing of one sum. All in integers, except that the narrowing adds by the machine's floats. Rests on the crate `ladder`.
+// Arithmetic on binary floating-point patterns at both widths: the forward sum, intervals and the narrowing of one sum. All in integers, except that the narrowing adds and compares by the machine's floats. Rests on the crate `ladder`.
 mod clamp;
 mod corner;
 mod end;

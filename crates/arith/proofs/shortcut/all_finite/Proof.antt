@@ -1,5 +1,5 @@
 -- `arith::shortcut::all_finite` meets its contract. Assumes nothing.
-use mathlib.Core.Path.{_≡_, sym, _∙_}
+use mathlib.Core.Path.{sym, _∙_}
 use mathlib.Core.Bool.{true, false, true≢false}
 use borrow.Author.Needs.{needs}
 use Rattle.arith.specs.Machines.{FitsWidth}

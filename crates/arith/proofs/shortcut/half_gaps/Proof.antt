@@ -1,5 +1,5 @@
 -- `arith::shortcut::half_gaps` meets its contract. Assumes nothing.
-use mathlib.Core.Path.{sym, ap₂, _∙_}
+use mathlib.Core.Path.{ap₂}
 use mathlib.Core.Bool.{_&&_}
 use Rattle.arith.specs.Intervals.{endsFinite}
 use Rattle.arith.specs.Machines.{machine}
