@@ -17,10 +17,10 @@ use Rattle.arith.specs.Formats.{Sound, isFinite, ordinal, sum}
 use Rattle.arith.specs.Intervals.{endsFinite, rangeOf, span}
 use Rattle.arith.specs.Machines.{sizeOf, Adds, Negates}
 use Rattle.arith.specs.Shortcuts.{Checks, Trims}
-use Rattle.arith.proofs.Formats.{both, infinity-lt, finite-low, finite-high, ordinal-low, ordinal-high}
+use Rattle.arith.proofs.Formats.{both, infinity-lt, finite-high, ordinal-low, ordinal-high}
 use Rattle.arith.proofs.Intervals.{ends-both}
 use Rattle.arith.proofs.Machines.{chosen}
-use Rattle.arith.proofs.HalfUlps.{size-low, size-high}
+use Rattle.arith.proofs.HalfUlps.{low-finite, size-low, size-high}
 
 -- with nothing else to hold
 one-of : (p : Bool) → (p || false) ≡ true → p ≡ true
@@ -71,9 +71,6 @@ module _ (F : Format) (ok : Sound F) where
     | inr l ↦ omega (arith, ok .word)
   ]
 
-  low-finite : (p : ℕ) → p < F .infinity → isFinite F p ≡ true
-  low-finite p h = sym (finite-low F ok p (omega (arith, infinity-lt F ok))) ∙ lt-ltb p (F .infinity) h
-
   high-finite : (p : ℕ) → F .sign ≤ p → p - F .sign < F .infinity → isFinite F p ≡ true
   high-finite p l h = sym (finite-high F ok p l) ∙ lt-ltb (p - F .sign) (F .infinity) h
 
@@ -81,9 +78,9 @@ module _ (F : Format) (ok : Sound F) where
   near-low c s h =
       let i = infinity-lt F ok in
       record {
-        finite = low-finite c (omega arith);
-        after-finite = low-finite (c + 1) h;
-        before-finite = low-finite (c - 1) (omega arith);
+        finite = low-finite F ok c (omega arith);
+        after-finite = low-finite F ok (c + 1) h;
+        before-finite = low-finite F ok (c - 1) (omega arith);
         after-is = omega (arith, ordinal-low F ok c (omega arith), ordinal-low F ok (c + 1) (omega arith));
         before-is = omega (arith, ordinal-low F ok c (omega arith), ordinal-low F ok (c - 1) (omega arith));
       }

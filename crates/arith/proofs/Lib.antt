@@ -15,7 +15,6 @@ pub mod Bounds
 pub mod Narrowings
 pub mod Callers
 pub mod Floating
-pub mod Adding
 pub mod Machines
 pub mod HalfUlps
 pub mod Gridding

@@ -1,5 +1,5 @@
--- The machine's formats are the kit's two, and the kit's `+`, `<=` and `<` on the patterns of their numbers; the pattern with the other sign, without its sign, and in the form that is written. Rests on `ladder`'s Numbers and Standard.
-use mathlib.Core.Path.{_≡_, sym, ap, _∙_, subst}
+-- The machine's formats are the kit's two, and the kit's `+`, `<=` and `<` on the patterns of their numbers; the pattern with the other sign, without its sign, and in the form that is written; the sum of two ordinals by their patterns. Rests on `ladder`'s Numbers and Standard.
+use mathlib.Core.Path.{_≡_, sym, ap, ap₂, _∙_, subst}
 use mathlib.Core.Logic.{inl, inr}
 use mathlib.Core.Bool.{Bool, true, false, not, cond}
 use Prim.Native.Nat.{ℕ, _+_, _-_, _*_, _≤_, _<_}
@@ -11,19 +11,22 @@ use borrow.Author.Tests.{lt-ltb, le-ltb, le-leb, leb-true, eq-eqb, ne-eqb}
 use Rattle.ladder.specs.Ordinal as L
 use Rattle.ladder.proofs.Cases.{le-or-lt}
 use Rattle.ladder.proofs.Ieee.{frac}
-use Rattle.ladder.proofs.Ordinals.{infinity-lt-sign, finite-low, finite-high, ordinal-low, ordinal-high, pattern-ordinal}
+use Rattle.ladder.proofs.Ordinals.{infinity-lt-sign, finite-low, finite-high, ordinal-low, ordinal-high, pattern-finite, pattern-ordinal, ordinal-pattern}
 use Rattle.ladder.proofs.Standard.{exponents, add-sum}
 use Rattle.ladder.proofs.Numbers.{finite-number, number-fits, number-bits, number-lt, number-le, number-add, number-sum}
 use Rattle.arith.specs.declared.format.Format.{Format}
-use Rattle.arith.specs.Formats.{Sound, isFinite, ordinal, pattern}
+use Rattle.arith.specs.Formats.{binary, Sound, isFinite, Finite, ordinal, pattern, sum}
 use Rattle.arith.specs.Machines.{machine, isNumber, FitsWidth, Adds, Negates, sizeOf}
 use Rattle.arith.specs.declared.interval.Interval.{Interval}
 use Rattle.arith.specs.Intervals.{endsFinite}
 use Rattle.arith.proofs.Formats.{sound}
 use Rattle.arith.proofs.Intervals.{ends-both}
-use Rattle.arith.proofs.Adding.{here}
 
 -- ---- the formats
+-- the kit's format by its bits
+abbrev here : I.Format → Format
+here F = binary (frac F) (exponents F)
+
 pub sound-machine : (wide : Bool) → Sound (machine wide)
 sound-machine true = sound 64
 sound-machine false = sound 32
@@ -153,3 +156,25 @@ module _ (F G : Format) (g : G ≡ F) (p : ℕ) (ok : Sound F) (t : isFinite F p
   pub canonical-same : (p ≡ G .sign → ⊥) → p ≡ pattern F (ordinal F p)
   unfolding L.canonical
   canonical-same h = sym (pattern-ordinal (F .fraction) (F .exponent) p t ∙ ap (λ (b : Bool). cond b 0 p) (ne-eqb _ _ (λ z. h (z ∙ sym sign-at))))
+
+-- ---- the sum of two ordinals by their patterns, where G is known as F
+module _ (F G : Format) (g : G ≡ F) (ok : Sound F) where
+  pub finite-ready : (x : ℕ) → Finite F x → Sound G × Finite G x
+  finite-ready x X = subst (λ (K : Format). Sound K × Finite K x) (sym g) (ok, X)
+
+  pub number-ready : (p : ℕ) → isNumber F p ≡ true → Sound G × (p < 2 * G .sign)
+  number-ready p h = subst (λ (K : Format). Sound K × (p < 2 * K .sign)) (sym g) (ok, omega (arith, ok .sign, number-fits (F .fraction) (F .exponent) p h))
+
+  -- p is the pattern of x
+  is-pattern : (x p : ℕ) → p ≡ pattern G x → p ≡ pattern F x
+  is-pattern x p e = e ∙ ap (λ (K : Format). pattern K x) g
+
+  pub finite-pattern : (x p : ℕ) → Finite F x → p ≡ pattern G x → isFinite F p ≡ true
+  finite-pattern x p X e = ap (isFinite F) (is-pattern x p e) ∙ pattern-finite (F .fraction) (F .exponent) x X
+
+  ordinal-is : (x p : ℕ) → Finite F x → p ≡ pattern G x → ordinal F p ≡ x
+  ordinal-is x p X e = ap (ordinal F) (is-pattern x p e) ∙ ordinal-pattern (F .fraction) (F .exponent) x X
+
+  pub added : (x a p q s r : ℕ) → Finite F x → Finite F a → p ≡ pattern G x → q ≡ pattern G a → Adds F p q s → r ≡ ordinal G s → r ≡ sum F x a
+  added x a p q s r X A i j t e =
+      e ∙ ap (λ (K : Format). ordinal K s) g ∙ t .is (finite-pattern x p X i) ∙ ap₂ (sum F) (ordinal-is x p X i) (ordinal-is a q A j)

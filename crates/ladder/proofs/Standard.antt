@@ -17,11 +17,11 @@ use lib.Ieee.Exact.{HasValue, odd-sign}
 use lib.Ieee.Scale.{round-same}
 use Rattle.ladder.specs.Magnitude.{scaled, magnitude}
 use Rattle.ladder.specs.Rounding.{round}
-use Rattle.ladder.specs.Ordinal.{sign, infinity, isFinite, ordinal, pattern, Finite, above, below}
+use Rattle.ladder.specs.Ordinal.{sign, infinity, isFinite, ordinal, above, below}
 use Rattle.ladder.specs.Sum.{rounded, sum}
 use Rattle.ladder.proofs.Cases.{le-or-lt}
 use Rattle.ladder.proofs.Multiples.{sub-mul}
-use Rattle.ladder.proofs.Ordinals.{infinity-lt-sign, finite-low, finite-high, ordinal-low, ordinal-high, pattern-finite, ordinal-pattern, signed-value}
+use Rattle.ladder.proofs.Ordinals.{infinity-lt-sign, finite-low, finite-high, ordinal-low, ordinal-high, signed-value}
 use Rattle.ladder.proofs.Sum.{rounded-up, rounded-down, sum-range}
 use Rattle.ladder.proofs.Ieee.{frac, round-bits}
 
@@ -232,13 +232,6 @@ module _ (F : Format) where
 
   pub sum-number : (x a : ℕ) → isFinite f e x ≡ true → isFinite f e a ≡ true → T (not (isNan (add F (ofBits F x) (ofBits F a))))
   sum-number x a X A = below-nan _ (subst (λ (r : ℕ). r ≤ s + cap) (sym (add-sum x a X A)) (sum-range f e some (ordinal f e x) (ordinal f e a) .1))
-
-  -- ---- the sum of two ordinals by their patterns
-  pub add-ordinals : (x a : ℕ) → Finite f e x → Finite f e a
-      → ordinal f e (toBits F (add F (ofBits F (pattern f e x)) (ofBits F (pattern f e a)))) ≡ sum f e x a
-  add-ordinals x a X A =
-      add-sum (pattern f e x) (pattern f e a) (pattern-finite f e x X) (pattern-finite f e a A)
-      ∙ ap₂ (sum f e) (ordinal-pattern f e x X) (ordinal-pattern f e a A)
 
 -- at the two widths
 pub add-sum-32 : (x a : ℕ) → isFinite 23 8 x ≡ true → isFinite 23 8 a ≡ true → ordinal 23 8 (toBits binary32 (add binary32 (ofBits binary32 x) (ofBits binary32 a))) ≡ sum 23 8 (ordinal 23 8 x) (ordinal 23 8 a)
