@@ -1,4 +1,4 @@
--- b's ends by a few sums: the sum of the low ends, or a sum below which the grid has none; the mirror image for the high end; and b's own end where a sum makes it. Rests on `ladder`'s LeastSum, Grid and Solutions.
+-- b's ends by a few sums: the sum of the low ends, or a sum below which the grid has none that reaches b; the mirror image for the high end; and b's own end where a sum makes it. Rests on `ladder`'s LeastSum, Grid and Solutions.
 use mathlib.Core.Path.{_≡_, refl, sym, ap, ap₂, _∙_, subst}
 use mathlib.Core.Logic.{inl, inr}
 use mathlib.Core.Bool.{Bool, true, false, not, cond, _&&_, _||_, true≢false}

@@ -68,7 +68,7 @@ aLeft F p q = rangeOf F (leftA p q)
 abbrev pub Gridded : Format → Pair → Pair → ℕ → Type 0
 Gridded F p q u = S.Grid (F .fraction) (F .exponent) (span (xLeft F p q)) (span (aLeft F p q)) (ordinal F u)
 
--- s lies beyond b, and s less u or s and u on the other side
+-- s is past b and s less u falls short of it, or s falls short of b and s plus u is past it
 pub data Passes (F : Format) (s u : ℕ) (b : Interval) : Type 0 where
   over : Finite F (ordinal F s) → ordinal F (b .high) < ordinal F s → sum F (ordinal F s) (mirrored F (ordinal F u)) < ordinal F (b .low) → Passes F s u b
   under : Finite F (ordinal F s) → ordinal F s < ordinal F (b .low) → ordinal F (b .high) < sum F (ordinal F s) (ordinal F u) → Passes F s u b
@@ -100,13 +100,13 @@ Judges F x a b p q Verdict.None = N.none ≡ narrowing F (rangeOf F x) (rangeOf 
 Judges F x a b p q Verdict.Unsure = Unit {0}
 
 -- ---- b's ends
--- v is the least b in a triple, seen without a search: the sum of the low ends, or the sum k, below which there is none from b on
+-- v is an end that sums show: the sum of the low ends, where that is not below b; or the sum k, where that is no more than b, or k less u falls short of b
 pub data Known (F : Format) (low k u b v : ℕ) : Type 0 where
   at-low : ordinal F b ≤ ordinal F low → ordinal F v ≡ ordinal F low → Known F low k u b v
   at-sum : ordinal F k ≤ ordinal F b → ordinal F v ≡ ordinal F k → Known F low k u b v
   at-gap : sum F (ordinal F k) (mirrored F (ordinal F u)) < ordinal F b → ordinal F v ≡ ordinal F k → Known F low k u b v
 
--- where known, so is the end; else it is b's own
+-- the end t: by such sums where it says that it is known, else b
 pub record KnownEnd (F : Format) (low k u b : ℕ) (t : End) : Type 0 where
   pub finite : isFinite F (t .b) ≡ true
   pub known : t .known ≡ true → Known F low k u b (t .b)

@@ -1,4 +1,4 @@
-// The ends of b by a few sums: the sum of the low ends, a sum below which the grid has none, or b's own end where one more sum makes it. Where these do not settle it, that is said.
+// The ends of b by a few sums: the sum of the low ends, a sum below which the grid has none that reaches b, or b's own end where one more sum makes it. Where these do not settle it, that is said.
 ghost use mathlib.Core.Path.{_≡_};
 ghost use mathlib.Core.Bool.{true, false};
 ghost use Prim.Native.Nat.{_≤_};
@@ -35,7 +35,7 @@ fn least_end(wide: bool, low: u64, k: u64, u: u64, b: u64) -> End
     End { b: end, known }
 }
 
-// Whether c with a number of i makes b.
+// Whether c makes b with the rounded difference b less c, held inside i. False says nothing.
 fn reaches(wide: bool, c: u64, i: Interval, b: u64) -> bool
     requires { ⌜ (isFinite (machine wide) c ≡ true) × (endsFinite (machine wide) i ≡ true) × (isFinite (machine wide) b ≡ true) × (ordinal (machine wide) (i .low) ≤ ordinal (machine wide) (i .high)) ⌝ }
     ensures { λ r. ⌜ (r ≡ true → Reached (machine wide) i (record { low = c; high = c }) b) ⌝ }
@@ -49,7 +49,7 @@ fn reaches(wide: bool, c: u64, i: Interval, b: u64) -> bool
     both(at_most(wide, s, b), at_most(wide, b, s))
 }
 
-// Whether a low end of x or a with a number of the other makes b: the low end that is farther from zero.
+// The same with the low end of x or a that is farther from zero, and the other interval.
 fn witness(wide: bool, x: Interval, a: Interval, b: u64) -> bool
     requires { ⌜ (endsFinite (machine wide) x ≡ true) × (endsFinite (machine wide) a ≡ true) × (isFinite (machine wide) b ≡ true) × (ordinal (machine wide) (x .low) ≤ ordinal (machine wide) (x .high)) × (ordinal (machine wide) (a .low) ≤ ordinal (machine wide) (a .high)) ⌝ }
     ensures { λ r. ⌜ (r ≡ true → Reached (machine wide) x a b) ⌝ }
@@ -97,7 +97,7 @@ pub(crate) fn high_end(wide: bool, p: Pair, q: Pair, u: u64, b: Interval) -> End
     }
 }
 
-// Whether the ends that are not known are b's own, by a sum each of what is left.
+// Whether each end of b that is not known (low and high say which are) is the sum of two numbers that p and q leave. False says nothing.
 pub(crate) fn attained(wide: bool, low: bool, high: bool, p: Pair, q: Pair, b: Interval) -> bool
     requires { ⌜ (PairFinite (machine wide) p) × (PairFinite (machine wide) q) × (endsFinite (machine wide) b ≡ true) × (Corners (machine wide) b p q) ⌝ }
     ensures { λ r. ⌜ (r ≡ true → (low ≡ false → Reached (machine wide) (leftX p q) (leftA p q) (b .low)) × (high ≡ false → Reached (machine wide) (leftX p q) (leftA p q) (b .high))) ⌝ }

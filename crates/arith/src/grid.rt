@@ -19,7 +19,7 @@ use crate::pattern::finite;
 use crate::range::min;
 use crate::words::shift_left;
 
-// An ulp of the end nearest zero, which is half an ulp one binade up, where the operands that p and q leave have opposite signs; else 0.
+// An ulp of the end nearest zero, which is half an ulp one binade up, where the operands that p and q leave have opposite signs and that end is normal; else 0.
 pub(crate) fn grid_step(wide: bool, p: Pair, q: Pair) -> u64
     requires { ⌜ (isFinite (machine wide) (p .x) ≡ true) × (isFinite (machine wide) (p .a) ≡ true) × (isFinite (machine wide) (q .x) ≡ true) × (isFinite (machine wide) (q .a) ≡ true) ⌝ }
     ensures { λ u. ⌜ (isFinite (machine wide) u ≡ true) × (Gridded (machine wide) p q u) ⌝ }

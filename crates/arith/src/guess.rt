@@ -1,4 +1,4 @@
-// The least operand by a guess: a difference of floats is it or next to it, and two sums show which. So nothing of the guess needs a proof, and where the sums do not show it, that is said.
+// The least operand by a guess: mostly a difference of floats is it or the float before it, and two sums show which. Nothing of the guess needs a proof; where the sums do not show it, that is said.
 ghost use mathlib.Core.Path.{_≡_};
 ghost use mathlib.Core.Bool.{true};
 ghost use Prim.Native.Nat.{_≤_};
@@ -31,7 +31,7 @@ pub(crate) struct Pair {
     pub(crate) sure: bool,
 }
 
-// The least y with a sum with p of at least q, if that is c or the number after c. Where c is zero or has no finite number after it, 1 stands in for it and nothing is sure.
+// The least y with a sum with p of at least q, if that is c or the number after c. Where c is zero, the largest float of either sign or an infinity, 1 stands in for it and nothing is sure.
 fn check(wide: bool, c: u64, p: u64, q: u64) -> Checked
     requires { ⌜ (isNumber (machine wide) c ≡ true) × (isFinite (machine wide) p ≡ true) × (isFinite (machine wide) q ≡ true) ⌝ }
     ensures { λ t. ⌜ Checks (machine wide) p q t ⌝ }

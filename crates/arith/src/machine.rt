@@ -1,4 +1,4 @@
-// Numbers by their patterns, as the machine's floats have them: binary64 where wide, else binary32. Rests on the kit's account of `+` and `<=` on f32 and f64.
+// Numbers by their patterns, as the machine's floats have them: binary64 where wide, else binary32. Rests on the kit's account of `+`, `<=` and `<` on f32 and f64.
 ghost use mathlib.Core.Path.{_≡_};
 ghost use mathlib.Core.Bool.{_&&_, _||_, true, cond};
 ghost use Prim.Native.Nat.{_+_, _-_};
@@ -25,7 +25,7 @@ pub(crate) fn both(p: bool, q: bool) -> bool
     p & q
 }
 
-// Whether one holds.
+// Whether at least one holds.
 pub(crate) fn either(p: bool, q: bool) -> bool
     ensures { λ r. ⌜ r ≡ (p || q) ⌝ }
 {
@@ -39,7 +39,7 @@ pub(crate) fn choose(test: bool, x: u64, y: u64) -> u64
     if test { x } else { y }
 }
 
-// The sum.
+// The sum of a number and a finite one.
 pub(crate) fn add(wide: bool, p: u64, q: u64) -> u64
     requires { ⌜ (isNumber (machine wide) p ≡ true) × (isFinite (machine wide) q ≡ true) ⌝ }
     ensures { λ r. ⌜ Adds (machine wide) p q r ⌝ }

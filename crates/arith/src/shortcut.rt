@@ -1,4 +1,4 @@
-// The narrowing by a few sums of the machine, without a search and nearly without a branch. Where these do not settle it, that is said, and the exact way of narrow.rt answers. One body for each width, so that the compiler has both without a test of the width.
+// The narrowing by a few sums of the machine, without a search, and nearly without a branch that is hard to foresee. Where these do not settle it, that is said, and the exact way of narrow.rt answers. The function that joins the steps stands once for each width, so that the compiler makes each step without a test of the width.
 ghost use mathlib.Core.Path.{_≡_};
 ghost use mathlib.Core.Bool.{_&&_, true};
 ghost use lib.Dec.{leb};
@@ -23,7 +23,7 @@ use crate::machine::finite_at;
 use crate::machine::fits;
 use crate::machine::opposite;
 
-// Whether two sums are corners, or no sum is inside b.
+// Whether the two trims are corners, or there is no triple, or neither is known.
 pub(crate) enum Verdict {
     Corners,
     None,

@@ -3,7 +3,7 @@
 use mathlib.Core.Path.{_≡_, subst}
 use mathlib.Core.Logic.{inl, inr}
 use Prim.Native.Nat.{ℕ, _+_, _-_, _^_, _≤_, _<_, _∣_}
-use native.Mathlib.Nat.{le-refl, dvd-zero, dvd-add, dvd-sub}
+use native.Mathlib.Nat.{dvd-zero, dvd-add, dvd-sub}
 use native.Mathlib.Omega.{arith}
 use Rattle.ladder.specs.Magnitude.{magnitude}
 use Rattle.ladder.specs.Ordinal.{sign, above, below, mirrored, Finite}
@@ -14,7 +14,7 @@ use Rattle.ladder.proofs.Cases.{le-or-lt}
 use Rattle.ladder.proofs.Magnitude.{magnitude-le}
 use Rattle.ladder.proofs.Multiples.{round-dvd, magnitude-dvd}
 use Rattle.ladder.proofs.Ordinals.{infinity-lt-sign, above-none, below-none, order}
-use Rattle.ladder.proofs.Sum.{rounded-up, rounded-down, rounded-value}
+use Rattle.ladder.proofs.Sum.{rounded-up, rounded-down}
 use Rattle.ladder.proofs.Skips.{apart, short-value, past-value}
 
 module _ (f e : ℕ) (some : 1 ≤ f) where
@@ -30,7 +30,7 @@ module _ (f e : ℕ) (some : 1 ≤ f) where
   down-multiple k r h d = record { up = rw (above-none f e r h) (dvd-zero (2 ^ k)); down = d }
 
   -- a finite sum of two is one
-  pub multiple-sum : (k x a : ℕ) → Multiple f e k x → Multiple f e k a → Finite f e (sum f e x a) → Multiple f e k (sum f e x a)
+  multiple-sum : (k x a : ℕ) → Multiple f e k x → Multiple f e k a → Finite f e (sum f e x a) → Multiple f e k (sum f e x a)
   unfolding sum
   multiple-sum k x a mx ma n =
       let P = gains f e x a in
@@ -54,11 +54,6 @@ module _ (f e : ℕ) (some : 1 ≤ f) where
 
   pub far-below : (k m r : ℕ) → 2 ^ (k + f) ≤ magnitude f m → r + m ≤ s → Multiple f e k r
   far-below k m r h l = down-multiple k r (omega arith) (magnitude-dvd f (s - r) k (omega (arith, magnitude-le f m (s - r) (omega arith))))
-
-  -- zero adds nothing
-  pub sum-zero : (c : ℕ) → Finite f e c → sum f e c s ≡ c
-  unfolding sum
-  sum-zero c n = rounded-value f e some (gains f e c s) (losses f e c s) c (omega arith) (omega arith) (omega (arith, above-none f e s (le-refl s), below-none f e s (le-refl s)))
 
   -- ---- sums on the grid
   -- a smaller ordinal has no greater value

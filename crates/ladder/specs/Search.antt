@@ -1,4 +1,4 @@
--- What is found on the way to the ends of a narrowing, each by what holds of it: the least number with a property, the least operand with a sum of at least b, the corner at which the least x and the greatest a stand in a triple.
+-- What is found on the way to the ends of a narrowing, each by what holds of it: the least number with a property, the least operand with a sum of at least b, the corner at which the least x and the greatest a stand in a triple, the operands cut from one side each, the grid of the sums.
 -- Also the images of an interval that this uses, its mirror and what the clamp leaves of it. What the narrowing is, Narrowing says; this is for the functions that find it. Assumes nothing.
 use mathlib.Core.Path.{_≡_}
 use mathlib.Core.Logic.{_↔_}
