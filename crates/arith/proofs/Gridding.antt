@@ -22,8 +22,8 @@ use Rattle.arith.specs.declared.interval.Interval as E
 use Rattle.arith.specs.declared.guess.Pair.{Pair}
 use Rattle.arith.specs.Formats.{Sound, isFinite, ordinal, sum}
 use Rattle.arith.specs.Intervals.{span}
-use Rattle.arith.specs.Machines.{sizeOf, HalfUlp, Adds, Negates}
-use Rattle.arith.specs.Shortcuts.{xLeft, aLeft, Gridded, Passes, over, under}
+use Rattle.arith.specs.Machines.{unsigned, HalfUlp, Adds, Negates}
+use Rattle.arith.specs.Shortcuts.{leftRangeX, leftRangeA, Gridded, Passes, over, under}
 use Rattle.arith.proofs.Formats.{both, infinity-lt, finite-fits, ordinal-low, ordinal-high}
 use Rattle.arith.proofs.Clamping.{field}
 use Rattle.arith.proofs.HalfUlps.{low-finite, size-low, size-high, size-lt}
@@ -61,30 +61,30 @@ module _ (F : Format) (ok : Sound F) where
       ]
 
   -- a number with its sign clear, or set, and all beyond it
-  from-plus : (m p : ℕ) (I : Interval) → p < F .sign → m ≤ sizeOf F p → ordinal F p ≤ I .low → Apart F m I
+  from-plus : (m p : ℕ) (I : Interval) → p < F .sign → m ≤ unsigned F p → ordinal F p ≤ I .low → Apart F m I
   from-plus m p I l h i = above (omega (arith, ok .sign, ordinal-low F ok p l, size-low F ok p l))
 
-  from-minus : (m p : ℕ) (I : Interval) → F .sign ≤ p → isFinite F p ≡ true → m ≤ sizeOf F p → I .high ≤ ordinal F p → Apart F m I
+  from-minus : (m p : ℕ) (I : Interval) → F .sign ≤ p → isFinite F p ≡ true → m ≤ unsigned F p → I .high ≤ ordinal F p → Apart F m I
   from-minus m p I l n h i = below (omega (arith, ok .sign, ordinal-high F ok p l, size-high F ok p l, finite-fits F ok p n))
 
   -- ---- the step
-  pub size-chosen : (first : Bool) (p q r : ℕ) → r ≡ cond first p q → isFinite F p ≡ true → isFinite F q ≡ true → sizeOf F r < F .infinity
+  pub size-chosen : (first : Bool) (p q r : ℕ) → r ≡ cond first p q → isFinite F p ≡ true → isFinite F q ≡ true → unsigned F r < F .infinity
   size-chosen true p q r e P Q = rw e (size-lt F ok p P)
   size-chosen false p q r e P Q = rw e (size-lt F ok q Q)
 
   module _ (p q : Pair) (p-finite : isFinite F (p .a) ≡ true) (q-finite : isFinite F (q .a) ≡ true) (plus minus m u : ℕ) (h : HalfUlp F (m + 2 ^ F .fraction) u) where
     -- whichever operand is the one above zero
-    grid-far : (first : Bool) → plus ≡ cond first (p .x) (q .x) → minus ≡ cond first (p .a) (q .a) → m ≤ sizeOf F plus → m ≤ sizeOf F minus → plus < F .sign → F .sign ≤ minus → Gridded F p q u
+    grid-far : (first : Bool) → plus ≡ cond first (p .x) (q .x) → minus ≡ cond first (p .a) (q .a) → m ≤ unsigned F plus → m ≤ unsigned F minus → plus < F .sign → F .sign ≤ minus → Gridded F p q u
     grid-far true a b x y l g =
-        grid-half (span (xLeft F p q)) (span (aLeft F p q)) m u h
-        (from-plus m plus (span (xLeft F p q)) l x (omega (arith, ap (ordinal F) a)))
-        (from-minus m minus (span (aLeft F p q)) g (rw b p-finite) y (omega (arith, ap (ordinal F) b)))
+        grid-half (span (leftRangeX F p q)) (span (leftRangeA F p q)) m u h
+        (from-plus m plus (span (leftRangeX F p q)) l x (omega (arith, ap (ordinal F) a)))
+        (from-minus m minus (span (leftRangeA F p q)) g (rw b p-finite) y (omega (arith, ap (ordinal F) b)))
     grid-far false a b x y l g =
-        grid-half (span (xLeft F p q)) (span (aLeft F p q)) m u h
-        (from-minus m minus (span (xLeft F p q)) g (rw b q-finite) y (omega (arith, ap (ordinal F) b)))
-        (from-plus m plus (span (aLeft F p q)) l x (omega (arith, ap (ordinal F) a)))
+        grid-half (span (leftRangeX F p q)) (span (leftRangeA F p q)) m u h
+        (from-minus m minus (span (leftRangeX F p q)) g (rw b q-finite) y (omega (arith, ap (ordinal F) b)))
+        (from-plus m plus (span (leftRangeA F p q)) l x (omega (arith, ap (ordinal F) a)))
 
-    pub gridded : (first : Bool) (r : ℕ) → plus ≡ cond first (p .x) (q .x) → minus ≡ cond first (p .a) (q .a) → m ≡ min (sizeOf F plus) (sizeOf F minus)
+    pub gridded : (first : Bool) (r : ℕ) → plus ≡ cond first (p .x) (q .x) → minus ≡ cond first (p .a) (q .a) → m ≡ min (unsigned F plus) (unsigned F minus)
         → r ≡ cond (ltb plus (F .sign) && leb (F .sign) minus) u 0 → (isFinite F r ≡ true) × Gridded F p q r
     gridded first r a b e = go (ltb plus (F .sign) && leb (F .sign) minus) refl
       where

@@ -15,7 +15,7 @@ use Rattle.arith.specs.declared.interval.Interval.{Interval}
 use Rattle.arith.specs.declared.guess.Checked.{Checked}
 use Rattle.arith.specs.Formats.{Sound, isFinite, ordinal, sum}
 use Rattle.arith.specs.Intervals.{endsFinite, rangeOf, span}
-use Rattle.arith.specs.Machines.{sizeOf, Adds, Negates}
+use Rattle.arith.specs.Machines.{unsigned, Adds, Negates}
 use Rattle.arith.specs.Shortcuts.{Checks, Trims}
 use Rattle.arith.proofs.Formats.{both, infinity-lt, finite-high, ordinal-low, ordinal-high}
 use Rattle.arith.proofs.Intervals.{ends-both}
@@ -30,8 +30,8 @@ one-of false e = e
 -- ---- patterns next to each other
 -- c is neither zero nor next to an infinity
 pub record Inner (F : Format) (c : ℕ) : Type 0 where
-  pub some : 0 < sizeOf F c
-  pub few : sizeOf F c + 1 < F .infinity
+  pub some : 0 < unsigned F c
+  pub few : unsigned F c + 1 < F .infinity
 
 -- the finite numbers after and before c
 pub record Near (F : Format) (c after before : ℕ) : Type 0 where
@@ -42,7 +42,7 @@ pub record Near (F : Format) (c after before : ℕ) : Type 0 where
   pub before-is : ordinal F c ≡ ordinal F before + 1
 
 -- by the test of its m
-inner-at : (F G : Format) (m c : ℕ) → G ≡ F → m ≡ sizeOf F c → (not (eqb m 0) && ltb m (G .infinity - 1)) ≡ true → Inner F c
+inner-at : (F G : Format) (m c : ℕ) → G ≡ F → m ≡ unsigned F c → (not (eqb m 0) && ltb m (G .infinity - 1)) ≡ true → Inner F c
 inner-at F G m c e h t =
     let i = ap (λ (H : Format). H .infinity) e in
     let b = both (not (eqb m 0)) (ltb m (G .infinity - 1)) t in
@@ -54,7 +54,7 @@ module _ (F : Format) (ok : Sound F) where
   one-inner l = let z = size-low F ok 1 (omega (arith, infinity-lt F ok)) in record { some = omega arith; few = omega arith }
 
   -- c where the test holds, else 1
-  pub inner : (G : Format) (m c d : ℕ) (within : Bool) → 2 < F .infinity → G ≡ F → m ≡ sizeOf F c → within ≡ (not (eqb m 0) && ltb m (G .infinity - 1)) → d ≡ cond within c 1 → Inner F d
+  pub inner : (G : Format) (m c d : ℕ) (within : Bool) → 2 < F .infinity → G ≡ F → m ≡ unsigned F c → within ≡ (not (eqb m 0) && ltb m (G .infinity - 1)) → d ≡ cond within c 1 → Inner F d
   inner G m c d true l e h t i = rw i (inner-at F G m c e h (sym t))
   inner G m c d false l e h t i = rw i (one-inner l)
 

@@ -15,7 +15,7 @@ use Rattle.ladder.proofs.Granularity.{magnitude-power}
 use Rattle.ladder.proofs.Ordinals.{sign-is}
 use Rattle.arith.specs.declared.format.Format.{Format}
 use Rattle.arith.specs.Formats.{Sound, isFinite}
-use Rattle.arith.specs.Machines.{sizeOf, HalfUlp}
+use Rattle.arith.specs.Machines.{unsigned, HalfUlp}
 use Rattle.arith.proofs.Formats.{infinity-lt, finite-low, finite-high}
 use Rattle.arith.proofs.Clamping.{field}
 
@@ -28,19 +28,19 @@ module _ (F : Format) (ok : Sound F) where
   pub low-finite : (r : ℕ) → r < F .infinity → isFinite F r ≡ true
   low-finite r l = sym (finite-low F ok r (omega (arith, infinity-lt F ok))) ∙ lt-ltb _ _ l
 
-  pub size-low : (p : ℕ) → p < F .sign → sizeOf F p ≡ p
+  pub size-low : (p : ℕ) → p < F .sign → unsigned F p ≡ p
   size-low p l = simp (lt-ltb _ _ l)
 
-  pub size-high : (p : ℕ) → F .sign ≤ p → sizeOf F p ≡ p - F .sign
+  pub size-high : (p : ℕ) → F .sign ≤ p → unsigned F p ≡ p - F .sign
   size-high p l = simp (le-ltb _ _ l)
 
-  pub size-finite : (p : ℕ) → ltb (sizeOf F p) (F .infinity) ≡ isFinite F p
+  pub size-finite : (p : ℕ) → ltb (unsigned F p) (F .infinity) ≡ isFinite F p
   size-finite p = elim (le-or-lt (F .sign) p) [
     | inl l ↦ rw (size-high p l) (finite-high F ok p l)
     | inr l ↦ rw (size-low p l) (finite-low F ok p l)
   ]
 
-  pub size-lt : (p : ℕ) → isFinite F p ≡ true → sizeOf F p < F .infinity
+  pub size-lt : (p : ℕ) → isFinite F p ≡ true → unsigned F p < F .infinity
   size-lt p h = ltb-true _ _ (size-finite p ∙ h)
 
   -- ---- half an ulp of m, by its exponent field q

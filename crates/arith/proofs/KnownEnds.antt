@@ -26,20 +26,20 @@ use Rattle.arith.specs.Formats.{Sound, isFinite, Finite, ordinal, sum, m
 use Rattle.arith.specs.Intervals.{Bounded, endsFinite, rangeOf, span, reflected}
 use Rattle.arith.specs.Machines.{isNumber, Adds, Negates}
 use Rattle.arith.specs.Searches.{HasB}
-use Rattle.arith.specs.Shortcuts.{xLeft, aLeft, CornersOf, Known, at-low, at-sum, at-gap, KnownEnd, LowEnd, HighEnd, Reached}
+use Rattle.arith.specs.Shortcuts.{leftRangeX, leftRangeA, CornersOf, Known, at-low, at-sum, at-gap, KnownEnd, LowEnd, HighEnd, Reached, Mirrors}
 use Rattle.arith.proofs.Formats.{both}
 use Rattle.arith.proofs.Intervals.{ends-both, range-ends}
 use Rattle.arith.proofs.Machines.{number-of, chosen}
 
 -- ---- one of two
 module _ (F : Format) where
-  pub lesser-is : (p q r : ℕ) → r ≡ cond (leb (ordinal F p) (ordinal F q)) p q → ordinal F r ≡ min (ordinal F p) (ordinal F q)
+  lesser-is : (p q r : ℕ) → r ≡ cond (leb (ordinal F p) (ordinal F q)) p q → ordinal F r ≡ min (ordinal F p) (ordinal F q)
   lesser-is p q r e = elim (le-or-lt (ordinal F p) (ordinal F q)) [
     | inl l ↦ let z : r ≡ p = simp (le-leb _ _ l) at e in omega (arith, ap (ordinal F) z)
     | inr l ↦ let z : r ≡ q = simp (lt-leb _ _ l) at e in omega (arith, ap (ordinal F) z)
   ]
 
-  pub greater-is : (p q r : ℕ) → r ≡ cond (leb (ordinal F p) (ordinal F q)) q p → ordinal F r ≡ max (ordinal F p) (ordinal F q)
+  greater-is : (p q r : ℕ) → r ≡ cond (leb (ordinal F p) (ordinal F q)) q p → ordinal F r ≡ max (ordinal F p) (ordinal F q)
   greater-is p q r e = elim (le-or-lt (ordinal F p) (ordinal F q)) [
     | inl l ↦ let z : r ≡ q = simp (le-leb _ _ l) at e in omega (arith, ap (ordinal F) z)
     | inr l ↦ let z : r ≡ p = simp (lt-leb _ _ l) at e in omega (arith, ap (ordinal F) z)
@@ -145,13 +145,13 @@ module _ (F : Format) (ok : Sound F) where
 
   module _ (X A B : Range) (low k u b : ℕ) (is : ordinal F low ≡ sum F (X .low) (A .low)) (at : ordinal F b ≡ B .low) (h : HasB F X A B (ordinal F k)) where
     -- the sum of the low ends and b's low end are no more than a sum in a triple
-    pub lows-below : (ordinal F low ≤ ordinal F k) × (ordinal F b ≤ ordinal F k)
+    lows-below : (ordinal F low ≤ ordinal F k) × (ordinal F b ≤ ordinal F k)
     lows-below =
         let r = h .solution in
         (omega (arith, sum-mono f e (ok .some) (X .low) (h .x) (A .low) (h .a) (r .x-in .low) (r .a-in .low), r .is), omega (arith, r .b-in .low))
 
     -- an end that is known is the least
-    pub known-least : Bounded F B → S.Grid f e (span X) (span A) (ordinal F u) → (v : ℕ) → Known F low k u b v → S.Least (HasB F X A B) (ordinal F v)
+    known-least : Bounded F B → S.Grid f e (span X) (span A) (ordinal F u) → (v : ℕ) → Known F low k u b v → S.Least (HasB F X A B) (ordinal F v)
     known-least n g v (at-low l z) = rw (z) (lows-least f e (ok .some) (span X) (span A) (span B) (ordinal F low) is (ordinal F k) h (omega arith))
     known-least n g v (at-sum l z) = rw (z) (floor-least f e (span X) (span A) (span B) (ordinal F k) (omega arith) h)
     known-least n g v (at-gap l z) =
@@ -173,10 +173,10 @@ module _ (F : Format) (ok : Sound F) where
 
   module _ (p q : Pair) (u : ℕ) (b : Interval) (c : CornersOf F p q u b) where
     abbrev X : Range
-    X = xLeft F p q
+    X = leftRangeX F p q
 
     abbrev A : Range
-    A = aLeft F p q
+    A = leftRangeA F p q
 
     abbrev B : Range
     B = rangeOf F b
@@ -210,7 +210,7 @@ module _ (F : Format) (ok : Sound F) where
     }
 
     -- and so does the one chosen, which is finite
-    pub corner-in : (t : Bool) (k : ℕ) → k ≡ cond t (p .b) (q .b) → HasB F X A B (ordinal F k)
+    corner-in : (t : Bool) (k : ℕ) → k ≡ cond t (p .b) (q .b) → HasB F X A B (ordinal F k)
     corner-in t k z = chosen (λ (r : ℕ). HasB F X A B (ordinal F r)) t k (p .b) (q .b) z first-in second-in
 
     pub corner-finite : (t : Bool) (k : ℕ) → k ≡ cond t (p .b) (q .b) → isFinite F k ≡ true
@@ -261,10 +261,8 @@ module _ (F : Format) (ok : Sound F) where
 
   -- ---- a sum that makes b, in the mirror
   -- r runs from the opposite of i's high end to that of its low end
-  abbrev pub Mirrors : Interval → Interval → Type 0
-  Mirrors i r = (endsFinite F r ≡ true) × (ordinal F (r .low) ≡ mirrored F (ordinal F (i .high))) × (ordinal F (r .high) ≡ mirrored F (ordinal F (i .low)))
 
-  module _ (i r : Interval) (n : endsFinite F i ≡ true) (m : Mirrors i r) where
+  module _ (i r : Interval) (n : endsFinite F i ≡ true) (m : Mirrors F i r) where
     pub mirror-order : ordinal F (i .low) ≤ ordinal F (i .high) → ordinal F (r .low) ≤ ordinal F (r .high)
     mirror-order l = omega (arith, m .1, m .2)
 
@@ -274,7 +272,7 @@ module _ (F : Format) (ok : Sound F) where
     mirror-twice : (y : ℕ) → In (span (rangeOf F r)) y → y ≤ 2 * L.sign f e
     mirror-twice y w = finite-twice f e y (finite-in f e (span (rangeOf F r)) (range-ends F r (rangeOf F r) refl (m .0)) y w)
 
-  pub mirror-made : (i j r s : Interval) (b v : ℕ) → endsFinite F i ≡ true → endsFinite F j ≡ true → isFinite F b ≡ true → Mirrors i r → Mirrors j s → Negates F b v → Reached F r s v → Reached F i j b
+  pub mirror-made : (i j r s : Interval) (b v : ℕ) → endsFinite F i ≡ true → endsFinite F j ≡ true → isFinite F b ≡ true → Mirrors F i r → Mirrors F j s → Negates F b v → Reached F r s v → Reached F i j b
   mirror-made i j r s b v ni nj nb mr ms nv t = record {
     y = mirrored F (t .y);
     z = mirrored F (t .z);

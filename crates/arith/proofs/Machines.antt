@@ -16,7 +16,7 @@ use Rattle.ladder.proofs.Standard.{exponents, add-sum}
 use Rattle.ladder.proofs.Numbers.{finite-number, number-fits, number-bits, number-lt, number-le, number-add, number-sum}
 use Rattle.arith.specs.declared.format.Format.{Format}
 use Rattle.arith.specs.Formats.{binary, Sound, isFinite, Finite, ordinal, pattern, sum}
-use Rattle.arith.specs.Machines.{machine, isNumber, FitsWidth, Adds, Negates, sizeOf}
+use Rattle.arith.specs.Machines.{machine, isNumber, FitsWidth, Adds, Negates, unsigned}
 use Rattle.arith.specs.declared.interval.Interval.{Interval}
 use Rattle.arith.specs.Intervals.{endsFinite}
 use Rattle.arith.proofs.Formats.{sound}
@@ -93,8 +93,8 @@ module _ (F : I.Format) (G : Format) (g : G ≡ here F) where
   pub precedes : (p q : ℕ) → isNumber G p ≡ true → isNumber G q ≡ true → lt (ofBits F p) (ofBits F q) ≡ ltb (ordinal G p) (ordinal G q)
   precedes p q P Q = number-lt F p q (number-at p P) (number-at q Q) ∙ tests ltb p q
 
-  pub size-is : (p : ℕ) → sizeOf (here F) p ≡ sizeOf G p
-  size-is p = sym (ap (λ (K : Format). sizeOf K p) g)
+  pub size-is : (p : ℕ) → unsigned (here F) p ≡ unsigned G p
+  size-is p = sym (ap (λ (K : Format). unsigned K p) g)
 
 -- ---- numbers fit the width
 pub fits-width : (wide : Bool) (p : ℕ) → isNumber (machine wide) p ≡ true → FitsWidth wide p

@@ -26,7 +26,7 @@ use Rattle.arith.specs.Formats.{Sound, isFinite, Finite, ordinal, sum, m
 use Rattle.arith.specs.Intervals.{endsFinite, isOrdered, rangeOf, intervalOf, span}
 use Rattle.arith.specs.Narrows.{narrowing, narrowAnswer, narrowFinite, narrowIn}
 use Rattle.arith.specs.Searches.{HasB}
-use Rattle.arith.specs.Shortcuts.{Trimmings, xLeft, aLeft, leftX, leftA, Gridded, Passes, over, under, Corners, CornersOf, LowEnd, HighEnd, Reached}
+use Rattle.arith.specs.Shortcuts.{Trimmings, leftRangeX, leftRangeA, leftX, leftA, Gridded, Passes, over, under, Corners, CornersOf, LowEnd, HighEnd, Reached}
 use Rattle.arith.proofs.Intervals.{ends-both}
 use Rattle.arith.proofs.Refusing.{passed}
 
@@ -90,13 +90,13 @@ module _ (F : Format) (ok : Sound F) (x a b : I.Interval) where
       | inr g ↦ never-x f e X A B (trimmed-never-a f e (ok .some) X A B _ _ _ _ tp tq (leb-false _ _ g))
     ]
 
-    pub passes-none : (u s y z : ℕ) → Gridded F p q u → endsFinite F b ≡ true → In (span (xLeft F p q)) y → In (span (aLeft F p q)) z → ordinal F s ≡ sum F y z → Passes F s u b → N.none ≡ narrowing F (rangeOf F x) (rangeOf F a) (rangeOf F b)
+    pub passes-none : (u s y z : ℕ) → Gridded F p q u → endsFinite F b ≡ true → In (span (leftRangeX F p q)) y → In (span (leftRangeA F p q)) z → ordinal F s ≡ sum F y z → Passes F s u b → N.none ≡ narrowing F (rangeOf F x) (rangeOf F a) (rangeOf F b)
     passes-none u s y z g n i j h w =
         let k = ends-both F b n in
         let nl = ordinal-finite f e (b .low) (k .0) in
         let nh = ordinal-finite f e (b .high) (k .1) in
-        let X' = span (xLeft F p q) in
-        let A' = span (aLeft F p q) in
+        let X' = span (leftRangeX F p q) in
+        let A' = span (leftRangeA F p q) in
         let v = ordinal F u in
         trimmed-none f e (ok .some) X A B (ordinal F (p .x)) (ordinal F (p .a)) (ordinal F (q .x)) (ordinal F (q .a)) tp tq (λ t c it ic r. elim w [
           | over fs l d ↦ grid-low f e (ok .some) X' A' v g y z (ordinal F (b .low)) i j (subst (Finite F) h fs) nl (subst (λ (i : ℕ). sum F i (mirrored F v) < ordinal F (b .low)) h d) t c it ic (r .low) (omega (arith, r .high))
@@ -105,19 +105,19 @@ module _ (F : Format) (ok : Sound F) (x a b : I.Interval) where
 
     -- ---- or the ends are those of the triples
     module _ (c : Corners F b p q) where
-      pub corners-ends : (I' : Interval) → N.Spans (HasB F (xLeft F p q) (aLeft F p q) (rangeOf F b)) I' → N.ends (span (xLeft F p q)) (span (aLeft F p q)) I' ≡ narrowing F (rangeOf F x) (rangeOf F a) (rangeOf F b)
+      corners-ends : (I' : Interval) → N.Spans (HasB F (leftRangeX F p q) (leftRangeA F p q) (rangeOf F b)) I' → N.ends (span (leftRangeX F p q)) (span (leftRangeA F p q)) I' ≡ narrowing F (rangeOf F x) (rangeOf F a) (rangeOf F b)
       corners-ends I' s = trimmed-ends f e (ok .some) X A B _ _ _ _ tp tq (c .x-order) (c .a-order) (ordinal F (p .b)) (ordinal F (q .b)) (m .first .is) (c .first) (m .second .is) (c .second) I' s
 
 -- ---- b's own ends
 module _ (F : Format) (b : I.Interval) (p q : Pair) (o : ordinal F (b .low) ≤ ordinal F (b .high)) where
-  reached-b : (v : ℕ) → ordinal F (b .low) ≤ ordinal F v → ordinal F v ≤ ordinal F (b .high) → Reached F (leftX p q) (leftA p q) v → HasB F (xLeft F p q) (aLeft F p q) (rangeOf F b) (ordinal F v)
+  reached-b : (v : ℕ) → ordinal F (b .low) ≤ ordinal F v → ordinal F v ≤ ordinal F (b .high) → Reached F (leftX p q) (leftA p q) v → HasB F (leftRangeX F p q) (leftRangeA F p q) (rangeOf F b) (ordinal F v)
   reached-b v l h r = record { x = r .y; a = r .z; solution = record { x-in = r .x-in; a-in = r .a-in; b-in = record { low = l; high = h }; is = r .is } }
 
-  pub low-least : (t : End) → LowEnd F p q b t → (t .known ≡ false → Reached F (leftX p q) (leftA p q) (b .low)) → S.Least (HasB F (xLeft F p q) (aLeft F p q) (rangeOf F b)) (ordinal F (t .b))
-  low-least t l w = by-cases (t .known) (l .known) (λ h. rw (l .own h) (record { holds = reached-b (b .low) (le-refl _) o (w h); least = λ y v. v .solution .b-in .low }))
+  low-end-least : (t : End) → LowEnd F p q b t → (t .known ≡ false → Reached F (leftX p q) (leftA p q) (b .low)) → S.Least (HasB F (leftRangeX F p q) (leftRangeA F p q) (rangeOf F b)) (ordinal F (t .b))
+  low-end-least t l w = by-cases (t .known) (l .known) (λ h. rw (l .own h) (record { holds = reached-b (b .low) (le-refl _) o (w h); least = λ y v. v .solution .b-in .low }))
 
-  pub high-greatest : (t : End) → HighEnd F p q b t → (t .known ≡ false → Reached F (leftX p q) (leftA p q) (b .high)) → S.Greatest (HasB F (xLeft F p q) (aLeft F p q) (rangeOf F b)) (ordinal F (t .b))
-  high-greatest t l w = by-cases (t .known) (l .known) (λ h. rw (l .own h) (record { holds = reached-b (b .high) o (le-refl _) (w h); most = λ y v. v .solution .b-in .high }))
+  high-end-greatest : (t : End) → HighEnd F p q b t → (t .known ≡ false → Reached F (leftX p q) (leftA p q) (b .high)) → S.Greatest (HasB F (leftRangeX F p q) (leftRangeA F p q) (rangeOf F b)) (ordinal F (t .b))
+  high-end-greatest t l w = by-cases (t .known) (l .known) (λ h. rw (l .own h) (record { holds = reached-b (b .high) o (le-refl _) (w h); most = λ y v. v .solution .b-in .high }))
 
 -- ---- what the trims take
 module _ (F : Format) (ok : Sound F) (x a b : I.Interval) (n : (endsFinite F x ≡ true) × (endsFinite F a ≡ true) × (endsFinite F b ≡ true)) (o : (isOrdered (rangeOf F x) ≡ true) × (isOrdered (rangeOf F a) ≡ true) × (isOrdered (rangeOf F b) ≡ true)) where
@@ -144,9 +144,9 @@ module _ (F : Format) (ok : Sound F) (x a b : I.Interval) (n : (endsFinite F x �
 
   pub ends-answer : (p .sure ≡ true) × (q .sure ≡ true) × Corners F b p q → (l h : End) → LowEnd F p q b l → HighEnd F p q b h
       → (l .known ≡ false → Reached F (leftX p q) (leftA p q) (b .low)) × (h .known ≡ false → Reached F (leftX p q) (leftA p q) (b .high))
-      → (i j k : I.Interval) → i ≡ intervalOf F (xLeft F p q) → j ≡ intervalOf F (aLeft F p q) → k ≡ intervalOf F (record { low = ordinal F (l .b); high = ordinal F (h .b) }) → Narrowed.Ends i j k ≡ narrowIn F x a b
+      → (i j k : I.Interval) → i ≡ intervalOf F (leftRangeX F p q) → j ≡ intervalOf F (leftRangeA F p q) → k ≡ intervalOf F (record { low = ordinal F (l .b); high = ordinal F (h .b) }) → Narrowed.Ends i j k ≡ narrowIn F x a b
   ends-answer s l h lo hi w i j k ei ej ek =
       let d = order-of F ok x a b n o b (o .2) in
       let B' : Interval = record { low = ordinal F (l .b); high = ordinal F (h .b) } in
-      let e = corners-ends F ok x a b p q m (s .0) (s .1) (s .2) B' (spans-of (low-least F b p q d l lo (w .0)) (high-greatest F b p q d h hi (w .1))) in
+      let e = corners-ends F ok x a b p q m (s .0) (s .1) (s .2) B' (spans-of (low-end-least F b p q d l lo (w .0)) (high-end-greatest F b p q d h hi (w .1))) in
       in-format F ok x a b n o (Narrowed.Ends i j k) (rw (ei, ej, ek) (ap (narrowAnswer F) e))

@@ -32,8 +32,8 @@ pub record Negates (F : Format) (p r : ℕ) : Type 0 where
   pub is : ordinal F r ≡ mirrored F (ordinal F p)
 
 -- a pattern without its sign: 01's m
-abbrev pub sizeOf : Format → ℕ → ℕ
-sizeOf F p = cond (ltb p (F .sign)) p (p - F .sign)
+abbrev pub unsigned : Format → ℕ → ℕ
+unsigned F p = cond (ltb p (F .sign)) p (p - F .sign)
 
 -- r is half an ulp of m: with the exponent field c it is 2^(c - 2) units, and 0 where that is less than one
 pub record HalfUlp (F : Format) (m r : ℕ) : Type 0 where

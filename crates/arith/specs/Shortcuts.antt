@@ -57,16 +57,16 @@ abbrev pub leftA : Pair → Pair → Interval
 leftA p q = record { low = q .x; high = p .a }
 
 -- the same by ordinals
-abbrev pub xLeft : Format → Pair → Pair → Range
-xLeft F p q = rangeOf F (leftX p q)
+abbrev pub leftRangeX : Format → Pair → Pair → Range
+leftRangeX F p q = rangeOf F (leftX p q)
 
 -- and of a
-abbrev pub aLeft : Format → Pair → Pair → Range
-aLeft F p q = rangeOf F (leftA p q)
+abbrev pub leftRangeA : Format → Pair → Pair → Range
+leftRangeA F p q = rangeOf F (leftA p q)
 
 -- u is zero, or every value of what they leave is a multiple of it
 abbrev pub Gridded : Format → Pair → Pair → ℕ → Type 0
-Gridded F p q u = S.Grid (F .fraction) (F .exponent) (span (xLeft F p q)) (span (aLeft F p q)) (ordinal F u)
+Gridded F p q u = S.Grid (F .fraction) (F .exponent) (span (leftRangeX F p q)) (span (leftRangeA F p q)) (ordinal F u)
 
 -- s is past b and s less u falls short of it, or s falls short of b and s plus u is past it
 pub data Passes (F : Format) (s u : ℕ) (b : Interval) : Type 0 where
@@ -120,16 +120,20 @@ pub record Reached (F : Format) (x a : Interval) (b : ℕ) : Type 0 where
   pub a-in : In (span (rangeOf F a)) z
   pub is : sum F y z ≡ ordinal F b
 
+-- r is i mirrored, its ends finite
+abbrev pub Mirrors : Format → Interval → Interval → Type 0
+Mirrors F i r = (endsFinite F r ≡ true) × (ordinal F (r .low) ≡ mirrored F (ordinal F (i .high))) × (ordinal F (r .high) ≡ mirrored F (ordinal F (i .low)))
+
 -- the low end, where known, is the least b in a triple of what is left; else it is b's own
 pub record LowEnd (F : Format) (p q : Pair) (b : Interval) (t : End) : Type 0 where
   pub finite : isFinite F (t .b) ≡ true
-  pub known : t .known ≡ true → S.Least (HasB F (xLeft F p q) (aLeft F p q) (rangeOf F b)) (ordinal F (t .b))
+  pub known : t .known ≡ true → S.Least (HasB F (leftRangeX F p q) (leftRangeA F p q) (rangeOf F b)) (ordinal F (t .b))
   pub own : t .known ≡ false → ordinal F (t .b) ≡ ordinal F (b .low)
 
 -- the high end, where known, is the greatest; else it is b's own
 pub record HighEnd (F : Format) (p q : Pair) (b : Interval) (t : End) : Type 0 where
   pub finite : isFinite F (t .b) ≡ true
-  pub known : t .known ≡ true → S.Greatest (HasB F (xLeft F p q) (aLeft F p q) (rangeOf F b)) (ordinal F (t .b))
+  pub known : t .known ≡ true → S.Greatest (HasB F (leftRangeX F p q) (leftRangeA F p q) (rangeOf F b)) (ordinal F (t .b))
   pub own : t .known ≡ false → ordinal F (t .b) ≡ ordinal F (b .high)
 
 -- ---- the whole

@@ -2,10 +2,10 @@
 ghost use mathlib.Core.Path.{_≡_};
 ghost use mathlib.Core.Bool.{true, false};
 ghost use Prim.Native.Nat.{_≤_};
-ghost use Rattle.arith.specs.Formats.{isFinite, ordinal, mirrored};
+ghost use Rattle.arith.specs.Formats.{isFinite, ordinal};
 ghost use Rattle.arith.specs.Intervals.{endsFinite};
 ghost use Rattle.arith.specs.Machines.{machine, isNumber};
-ghost use Rattle.arith.specs.Shortcuts.{PairFinite, leftX, leftA, Corners, CornersOf, KnownEnd, LowEnd, HighEnd, Reached};
+ghost use Rattle.arith.specs.Shortcuts.{PairFinite, leftX, leftA, Corners, CornersOf, KnownEnd, LowEnd, HighEnd, Reached, Mirrors};
 use crate::guess::Pair;
 use crate::interval::Interval;
 use crate::machine::add;
@@ -63,7 +63,7 @@ fn witness(wide: bool, x: Interval, a: Interval, b: u64) -> bool
 // From the opposite of the high end to that of the low end.
 fn mirror(wide: bool, i: Interval) -> Interval
     requires { ⌜ endsFinite (machine wide) i ≡ true ⌝ }
-    ensures { λ r. ⌜ (endsFinite (machine wide) r ≡ true) × (ordinal (machine wide) (r .low) ≡ mirrored (machine wide) (ordinal (machine wide) (i .high))) × (ordinal (machine wide) (r .high) ≡ mirrored (machine wide) (ordinal (machine wide) (i .low))) ⌝ }
+    ensures { λ r. ⌜ Mirrors (machine wide) i r ⌝ }
 {
     Interval {
         low: opposite(wide, i.high),

@@ -4,7 +4,7 @@ ghost use mathlib.Core.Bool.{_&&_, _||_, true, cond};
 ghost use Prim.Native.Nat.{_+_, _-_};
 ghost use lib.Dec.{leb, ltb};
 ghost use Rattle.arith.specs.Formats.{isFinite, ordinal, pattern};
-ghost use Rattle.arith.specs.Machines.{machine, isNumber, FitsWidth, Adds, Negates, sizeOf};
+ghost use Rattle.arith.specs.Machines.{machine, isNumber, FitsWidth, Adds, Negates, unsigned};
 use crate::format::Format;
 use crate::format::format_of;
 
@@ -126,7 +126,7 @@ fn size_binary32(p: u32) -> u32
 // The pattern without its sign.
 pub(crate) fn size(wide: bool, p: u64) -> u64
     requires { ⌜ FitsWidth wide p ⌝ }
-    ensures { λ r. ⌜ r ≡ sizeOf (machine wide) p ⌝ }
+    ensures { λ r. ⌜ r ≡ unsigned (machine wide) p ⌝ }
 {
     if wide {
         return size_binary64(p);

@@ -59,7 +59,7 @@ module _ (f e : ℕ) (some : 1 ≤ f) where
 
   -- the corner with the least x
   module _ (X A B : Interval) (x a c z : ℕ) (p : Trimmed f e B (X .low) (A .high) x a) (q : Trimmed f e B (A .low) (X .high) c z) where
-    pub trimmed-corner : x ≤ z → c ≤ a → (b : ℕ) → b ≡ sum f e x a → In B b → Corner f e X A B x a b
+    trimmed-corner : x ≤ z → c ≤ a → (b : ℕ) → b ≡ sum f e x a → In B b → Corner f e X A B x a b
     trimmed-corner i j b is k =
         let x-in : In X x = record { low = p .up; high = omega (arith, i, q .down) } in
         let a-in : In A a = record { low = omega (arith, j, q .up); high = p .down } in
@@ -81,23 +81,15 @@ module _ (f e : ℕ) (some : 1 ≤ f) where
     A' = record { low = c; high = a }
 
     -- the corner with the least a, the operands swapped
-    pub trimmed-corner-swapped : x ≤ z → c ≤ a → (b : ℕ) → b ≡ sum f e c z → In B b → Corner f e A X B c z b
+    trimmed-corner-swapped : x ≤ z → c ≤ a → (b : ℕ) → b ≡ sum f e c z → In B b → Corner f e A X B c z b
     trimmed-corner-swapped i j = trimmed-corner A X B c z x a q p j i
 
-    -- the triples between the new ends are those that were there
-    pub trimmed-kept : Kept f e X A B X' A' B
+    -- no triple is lost between the new ends
+    trimmed-kept : Kept f e X A B X' A' B
     trimmed-kept y w b s =
         let i = side X A B x a p y w b s in
         let j = side A X B c z q w y b (swap s) in
         record { x-in = record { low = i .0; high = j .1 }; a-in = record { low = j .0; high = i .1 }; b-in = s .b-in; is = s .is }
-
-    pub trimmed-given : Kept f e X' A' B X A B
-    trimmed-given y w b s = record {
-      x-in = record { low = omega (arith, p .up, s .x-in .low); high = omega (arith, q .down, s .x-in .high) };
-      a-in = record { low = omega (arith, q .up, s .a-in .low); high = omega (arith, p .down, s .a-in .high) };
-      b-in = s .b-in;
-      is = s .is;
-    }
 
     -- the ends have crossed
     pub trimmed-never-x : z < x → Never (HasX f e X A B)
