@@ -72,9 +72,9 @@ module _ (F : Format) (ok : Sound F) where
   size-chosen true p q r e P Q = rw e (size-lt F ok p P)
   size-chosen false p q r e P Q = rw e (size-lt F ok q Q)
 
-  module _ (p q : Pair) (p-finite : isFinite F (p .a) ≡ true) (q-finite : isFinite F (q .a) ≡ true) (plus minus m u : ℕ) (h : HalfUlp F (m + 2 ^ F .fraction) u) where
+  module _ (p q : Pair) (p-finite : isFinite F (p .high) ≡ true) (q-finite : isFinite F (q .high) ≡ true) (plus minus m u : ℕ) (h : HalfUlp F (m + 2 ^ F .fraction) u) where
     -- whichever operand is the one above zero
-    grid-far : (first : Bool) → plus ≡ cond first (p .x) (q .x) → minus ≡ cond first (p .a) (q .a) → m ≤ unsigned F plus → m ≤ unsigned F minus → plus < F .sign → F .sign ≤ minus → Gridded F p q u
+    grid-far : (first : Bool) → plus ≡ cond first (p .low) (q .low) → minus ≡ cond first (p .high) (q .high) → m ≤ unsigned F plus → m ≤ unsigned F minus → plus < F .sign → F .sign ≤ minus → Gridded F p q u
     grid-far true a b x y l g =
         grid-half (span (leftRangeX F p q)) (span (leftRangeA F p q)) m u h
         (from-plus m plus (span (leftRangeX F p q)) l x (omega (arith, ap (ordinal F) a)))
@@ -84,7 +84,7 @@ module _ (F : Format) (ok : Sound F) where
         (from-minus m minus (span (leftRangeX F p q)) g (rw b q-finite) y (omega (arith, ap (ordinal F) b)))
         (from-plus m plus (span (leftRangeA F p q)) l x (omega (arith, ap (ordinal F) a)))
 
-    pub gridded : (first : Bool) (r : ℕ) → plus ≡ cond first (p .x) (q .x) → minus ≡ cond first (p .a) (q .a) → m ≡ min (unsigned F plus) (unsigned F minus)
+    pub gridded : (first : Bool) (r : ℕ) → plus ≡ cond first (p .low) (q .low) → minus ≡ cond first (p .high) (q .high) → m ≡ min (unsigned F plus) (unsigned F minus)
         → r ≡ cond (ltb plus (F .sign) && leb (F .sign) minus) u 0 → (isFinite F r ≡ true) × Gridded F p q r
     gridded first r a b e = go (ltb plus (F .sign) && leb (F .sign) minus) refl
       where

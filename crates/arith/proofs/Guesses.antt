@@ -183,7 +183,7 @@ module _ (F : Format) (ok : Sound F) where
           q ≡ cond (not upto) o a →
           Adds F p q r →
           sure ≡ (t .sure || Bool·beq (not enough) (not upto)) →
-          Trims F x a b (record { x = p; a = q; b = r; sure = sure })
+          Trims F x a b (record { low = p; high = q; sum = r; sure = sure })
       trimmed enough upto sure g h p q r l is-enough is-upto gs hs k ps qs R is-sure =
           let k' : Checks F (cond (not enough) a mx) (cond (not enough) (b .low) mb) t = rw (gs, hs) at k in
           let fp = chosen (λ (n : ℕ). isFinite F n ≡ true) (not enough) p (t .y) x ps (k .finite) X in

@@ -77,15 +77,15 @@ module _ (F : Format) (ok : Sound F) (x a b : I.Interval) where
     order-of i h = leb-true _ _ h
 
   module _ (p q : Pair) (m : Trimmings F x a b p q) (sp : p .sure ≡ true) (sq : q .sure ≡ true) where
-    abbrev tp : S.Trimmed f e B (X .low) (A .high) (ordinal F (p .x)) (ordinal F (p .a))
+    abbrev tp : S.Trimmed f e B (X .low) (A .high) (ordinal F (p .low)) (ordinal F (p .high))
     tp = m .first .trimmed sp
 
-    abbrev tq : S.Trimmed f e B (A .low) (X .high) (ordinal F (q .x)) (ordinal F (q .a))
+    abbrev tq : S.Trimmed f e B (A .low) (X .high) (ordinal F (q .low)) (ordinal F (q .high))
     tq = m .second .trimmed sq
 
     -- ---- there is no triple
-    pub disorder-none : (leb (ordinal F (p .x)) (ordinal F (q .a)) && leb (ordinal F (q .x)) (ordinal F (p .a))) ≡ false → N.none ≡ narrowing F (rangeOf F x) (rangeOf F a) (rangeOf F b)
-    disorder-none h = elim (not-both (leb (ordinal F (p .x)) (ordinal F (q .a))) (leb (ordinal F (q .x)) (ordinal F (p .a))) h) [
+    pub disorder-none : (leb (ordinal F (p .low)) (ordinal F (q .high)) && leb (ordinal F (q .low)) (ordinal F (p .high))) ≡ false → N.none ≡ narrowing F (rangeOf F x) (rangeOf F a) (rangeOf F b)
+    disorder-none h = elim (not-both (leb (ordinal F (p .low)) (ordinal F (q .high))) (leb (ordinal F (q .low)) (ordinal F (p .high))) h) [
       | inl g ↦ never-x f e X A B (trimmed-never-x f e (ok .some) X A B _ _ _ _ tp tq (leb-false _ _ g))
       | inr g ↦ never-x f e X A B (trimmed-never-a f e (ok .some) X A B _ _ _ _ tp tq (leb-false _ _ g))
     ]
@@ -98,7 +98,7 @@ module _ (F : Format) (ok : Sound F) (x a b : I.Interval) where
         let X' = span (leftRangeX F p q) in
         let A' = span (leftRangeA F p q) in
         let v = ordinal F u in
-        trimmed-none f e (ok .some) X A B (ordinal F (p .x)) (ordinal F (p .a)) (ordinal F (q .x)) (ordinal F (q .a)) tp tq (λ t c it ic r. elim w [
+        trimmed-none f e (ok .some) X A B (ordinal F (p .low)) (ordinal F (p .high)) (ordinal F (q .low)) (ordinal F (q .high)) tp tq (λ t c it ic r. elim w [
           | over fs l d ↦ grid-low f e (ok .some) X' A' v g y z (ordinal F (b .low)) i j (subst (Finite F) h fs) nl (subst (λ (i : ℕ). sum F i (mirrored F v) < ordinal F (b .low)) h d) t c it ic (r .low) (omega (arith, r .high))
           | under fs l d ↦ grid-high f e (ok .some) X' A' v g y z (ordinal F (b .high)) i j (subst (Finite F) h fs) nh (subst (λ (i : ℕ). ordinal F (b .high) < sum F i v) h d) t c it ic (r .high) (omega (arith, r .low))
         ])
@@ -106,7 +106,7 @@ module _ (F : Format) (ok : Sound F) (x a b : I.Interval) where
     -- ---- or the ends are those of the triples
     module _ (c : Corners F b p q) where
       corners-ends : (I' : Interval) → N.Spans (HasB F (leftRangeX F p q) (leftRangeA F p q) (rangeOf F b)) I' → N.ends (span (leftRangeX F p q)) (span (leftRangeA F p q)) I' ≡ narrowing F (rangeOf F x) (rangeOf F a) (rangeOf F b)
-      corners-ends I' s = trimmed-ends f e (ok .some) X A B _ _ _ _ tp tq (c .x-order) (c .a-order) (ordinal F (p .b)) (ordinal F (q .b)) (m .first .is) (c .first) (m .second .is) (c .second) I' s
+      corners-ends I' s = trimmed-ends f e (ok .some) X A B _ _ _ _ tp tq (c .x-order) (c .a-order) (ordinal F (p .sum)) (ordinal F (q .sum)) (m .first .is) (c .first) (m .second .is) (c .second) I' s
 
 -- ---- b's own ends
 module _ (F : Format) (b : I.Interval) (p q : Pair) (o : ordinal F (b .low) ≤ ordinal F (b .high)) where

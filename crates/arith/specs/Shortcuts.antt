@@ -31,17 +31,17 @@ pub record Checks (F : Format) (p q : ℕ) (t : Checked) : Type 0 where
   pub least : t .sure ≡ true → S.Threshold (F .fraction) (F .exponent) (ordinal F p) (ordinal F q) (ordinal F (t .y))
 
 -- ---- both operands
--- where sure, the operands from x on and up to a that make a sum inside b lie from t's x on and up to t's a, whose sum is t's b
+-- where sure, the operands from x on and up to a that make a sum inside b lie from t's low on and up to t's high, whose sum is t's sum
 pub record Trims (F : Format) (x a : ℕ) (b : Interval) (t : Pair) : Type 0 where
-  pub x-finite : isFinite F (t .x) ≡ true
-  pub a-finite : isFinite F (t .a) ≡ true
-  pub number : isNumber F (t .b) ≡ true
-  pub is : ordinal F (t .b) ≡ sum F (ordinal F (t .x)) (ordinal F (t .a))
-  pub trimmed : t .sure ≡ true → S.Trimmed (F .fraction) (F .exponent) (span (rangeOf F b)) (ordinal F x) (ordinal F a) (ordinal F (t .x)) (ordinal F (t .a))
+  pub x-finite : isFinite F (t .low) ≡ true
+  pub a-finite : isFinite F (t .high) ≡ true
+  pub number : isNumber F (t .sum) ≡ true
+  pub is : ordinal F (t .sum) ≡ sum F (ordinal F (t .low)) (ordinal F (t .high))
+  pub trimmed : t .sure ≡ true → S.Trimmed (F .fraction) (F .exponent) (span (rangeOf F b)) (ordinal F x) (ordinal F a) (ordinal F (t .low)) (ordinal F (t .high))
 
 -- the operands of a pair are finite
 abbrev pub PairFinite : Format → Pair → Type 0
-PairFinite F p = (isFinite F (p .x) ≡ true) × (isFinite F (p .a) ≡ true)
+PairFinite F p = (isFinite F (p .low) ≡ true) × (isFinite F (p .high) ≡ true)
 
 -- p trims x's low and a's high end, q a's low and x's high end
 pub record Trimmings (F : Format) (x a b : Interval) (p q : Pair) : Type 0 where
@@ -50,11 +50,11 @@ pub record Trimmings (F : Format) (x a b : Interval) (p q : Pair) : Type 0 where
 
 -- what they leave of x
 abbrev pub leftX : Pair → Pair → Interval
-leftX p q = record { low = p .x; high = q .a }
+leftX p q = record { low = p .low; high = q .high }
 
 -- and of a
 abbrev pub leftA : Pair → Pair → Interval
-leftA p q = record { low = q .x; high = p .a }
+leftA p q = record { low = q .low; high = p .high }
 
 -- the same by ordinals
 abbrev pub leftRangeX : Format → Pair → Pair → Range
@@ -75,19 +75,19 @@ pub data Passes (F : Format) (s u : ℕ) (b : Interval) : Type 0 where
 
 -- p and q are corners: what they leave is in order, and their sums are inside b
 pub record Corners (F : Format) (b : Interval) (p q : Pair) : Type 0 where
-  pub x-order : ordinal F (p .x) ≤ ordinal F (q .a)
-  pub a-order : ordinal F (q .x) ≤ ordinal F (p .a)
-  pub first : In (span (rangeOf F b)) (ordinal F (p .b))
-  pub second : In (span (rangeOf F b)) (ordinal F (q .b))
+  pub x-order : ordinal F (p .low) ≤ ordinal F (q .high)
+  pub a-order : ordinal F (q .low) ≤ ordinal F (p .high)
+  pub first : In (span (rangeOf F b)) (ordinal F (p .sum))
+  pub second : In (span (rangeOf F b)) (ordinal F (q .sum))
 
 -- corners with the grid, for b's ends
 pub record CornersOf (F : Format) (p q : Pair) (u : ℕ) (b : Interval) : Type 0 where
   pub first : PairFinite F p
   pub second : PairFinite F q
-  pub first-number : isNumber F (p .b) ≡ true
-  pub second-number : isNumber F (q .b) ≡ true
-  pub first-is : ordinal F (p .b) ≡ sum F (ordinal F (p .x)) (ordinal F (p .a))
-  pub second-is : ordinal F (q .b) ≡ sum F (ordinal F (q .x)) (ordinal F (q .a))
+  pub first-number : isNumber F (p .sum) ≡ true
+  pub second-number : isNumber F (q .sum) ≡ true
+  pub first-is : ordinal F (p .sum) ≡ sum F (ordinal F (p .low)) (ordinal F (p .high))
+  pub second-is : ordinal F (q .sum) ≡ sum F (ordinal F (q .low)) (ordinal F (q .high))
   pub finite : endsFinite F b ≡ true
   pub u-finite : isFinite F u ≡ true
   pub grid : Gridded F p q u

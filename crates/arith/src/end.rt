@@ -76,7 +76,13 @@ pub(crate) fn low_end(wide: bool, p: Pair, q: Pair, u: u64, b: Interval) -> End
     requires { ⌜ CornersOf (machine wide) p q u b ⌝ }
     ensures { λ t. ⌜ LowEnd (machine wide) p q b t ⌝ }
 {
-    least_end(wide, add(wide, p.x, q.x), lesser(wide, p.b, q.b), u, b.low)
+    least_end(
+        wide,
+        add(wide, p.low, q.low),
+        lesser(wide, p.sum, q.sum),
+        u,
+        b.low,
+    )
 }
 
 // The high end: the mirror image of a low end.
@@ -86,8 +92,8 @@ pub(crate) fn high_end(wide: bool, p: Pair, q: Pair, u: u64, b: Interval) -> End
 {
     let t = least_end(
         wide,
-        opposite(wide, add(wide, q.a, p.a)),
-        opposite(wide, greater(wide, q.b, p.b)),
+        opposite(wide, add(wide, q.high, p.high)),
+        opposite(wide, greater(wide, q.sum, p.sum)),
         u,
         opposite(wide, b.high),
     );
@@ -103,12 +109,12 @@ pub(crate) fn attained(wide: bool, low: bool, high: bool, p: Pair, q: Pair, b: I
     ensures { λ r. ⌜ (r ≡ true → (low ≡ false → Reached (machine wide) (leftX p q) (leftA p q) (b .low)) × (high ≡ false → Reached (machine wide) (leftX p q) (leftA p q) (b .high))) ⌝ }
 {
     let x = Interval {
-        low: p.x,
-        high: q.a,
+        low: p.low,
+        high: q.high,
     };
     let a = Interval {
-        low: q.x,
-        high: p.a,
+        low: q.low,
+        high: p.high,
     };
     if !low {
         if !witness(wide, x, a, b.low) {

@@ -21,13 +21,13 @@ use crate::words::shift_left;
 
 // An ulp of the end nearest zero, which is half an ulp one binade up, where the operands that p and q leave have opposite signs and that end is normal; else 0.
 pub(crate) fn grid_step(wide: bool, p: Pair, q: Pair) -> u64
-    requires { ⌜ (isFinite (machine wide) (p .x) ≡ true) × (isFinite (machine wide) (p .a) ≡ true) × (isFinite (machine wide) (q .x) ≡ true) × (isFinite (machine wide) (q .a) ≡ true) ⌝ }
+    requires { ⌜ (isFinite (machine wide) (p .low) ≡ true) × (isFinite (machine wide) (p .high) ≡ true) × (isFinite (machine wide) (q .low) ≡ true) × (isFinite (machine wide) (q .high) ≡ true) ⌝ }
     ensures { λ u. ⌜ (isFinite (machine wide) u ≡ true) × (Gridded (machine wide) p q u) ⌝ }
 {
     let format = format_at(wide);
-    let first = p.x < format.sign;
-    let plus = choose(first, p.x, q.x);
-    let minus = choose(first, p.a, q.a);
+    let first = p.low < format.sign;
+    let plus = choose(first, p.low, q.low);
+    let minus = choose(first, p.high, q.high);
     let m = min(size(wide, plus), size(wide, minus));
     let u = half_ulp(wide, m + shift_left(1, format.fraction));
     choose(both(plus < format.sign, format.sign <= minus), u, 0)

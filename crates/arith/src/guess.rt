@@ -23,11 +23,11 @@ pub(crate) struct Checked {
     pub(crate) sure: bool,
 }
 
-// A lower bound for one operand and an upper bound for the other, with their sum, and whether they are surely bounds.
+// The low end of one operand, the high end of the other and their sum, and whether both are surely bounds.
 pub(crate) struct Pair {
-    pub(crate) x: u64,
-    pub(crate) a: u64,
-    pub(crate) b: u64,
+    pub(crate) low: u64,
+    pub(crate) high: u64,
+    pub(crate) sum: u64,
     pub(crate) sure: bool,
 }
 
@@ -76,9 +76,9 @@ pub(crate) fn trim(wide: bool, x: u64, a: u64, b: Interval, h: Interval) -> Pair
     let p = choose(short, t.y, x);
     let q = choose(past, opposite(wide, t.y), a);
     Pair {
-        x: p,
-        a: q,
-        b: add(wide, p, q),
+        low: p,
+        high: q,
+        sum: add(wide, p, q),
         sure: either(t.sure, short == past),
     }
 }

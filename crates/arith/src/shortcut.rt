@@ -110,16 +110,16 @@ fn judge(wide: bool, x: Interval, a: Interval, b: Interval, p: Pair, q: Pair, u:
     if !both(p.sure, q.sure) {
         return Verdict::Unsure;
     }
-    if !both(at_most(wide, p.x, q.a), at_most(wide, q.x, p.a)) {
+    if !both(at_most(wide, p.low, q.high), at_most(wide, q.low, p.high)) {
         return Verdict::None;
     }
-    if both(within(wide, p.b, b), within(wide, q.b, b)) {
+    if both(within(wide, p.sum, b), within(wide, q.sum, b)) {
         return Verdict::Corners;
     }
-    if passes(wide, p.b, u, b) {
+    if passes(wide, p.sum, u, b) {
         return Verdict::None;
     }
-    if passes(wide, q.b, u, b) {
+    if passes(wide, q.sum, u, b) {
         return Verdict::None;
     }
     Verdict::Unsure
@@ -162,8 +162,8 @@ fn shortcut64(x: Interval, a: Interval, b: Interval) -> Shortcut
                 }
             }
             Shortcut::Ends {
-                x: canonical_ends(true, p.x, q.a),
-                a: canonical_ends(true, q.x, p.a),
+                x: canonical_ends(true, p.low, q.high),
+                a: canonical_ends(true, q.low, p.high),
                 b: canonical_ends(true, low.b, high.b),
             }
         }
@@ -196,8 +196,8 @@ fn shortcut32(x: Interval, a: Interval, b: Interval) -> Shortcut
                 }
             }
             Shortcut::Ends {
-                x: canonical_ends(false, p.x, q.a),
-                a: canonical_ends(false, q.x, p.a),
+                x: canonical_ends(false, p.low, q.high),
+                a: canonical_ends(false, q.low, p.high),
                 b: canonical_ends(false, low.b, high.b),
             }
         }

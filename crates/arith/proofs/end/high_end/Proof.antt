@@ -10,7 +10,7 @@ use Rattle.arith.proofs.end.high_end.Statement.{statement}
 use Rattle.arith.proofs.end.high_end.Tie as tie
 
 add-requires : tie.Need-add-requires
-add-requires c κs = (number-of (machine (c .args .wide)) (c .args .q .a) (c .pre .second .1), c .pre .first .1)
+add-requires c κs = (number-of (machine (c .args .wide)) (c .args .q .high) (c .pre .second .1), c .pre .first .1)
 
 opposite-requires : tie.Need-opposite-requires
 opposite-requires c κs = search needs
@@ -24,7 +24,7 @@ opposite-requires-2 c κs =
     let p = z .args .p in
     let q = z .args .q in
     let F = machine (z .args .wide) in
-    number-of F (c .greater .result) (corner-finite F (sound-machine (z .args .wide)) p q (z .args .u) (z .args .b) (z .pre) (leb (ordinal F (q .b)) (ordinal F (p .b))) (c .greater .result) (c .greater .ensures))
+    number-of F (c .greater .result) (corner-finite F (sound-machine (z .args .wide)) p q (z .args .u) (z .args .b) (z .pre) (leb (ordinal F (q .sum)) (ordinal F (p .sum))) (c .greater .result) (c .greater .ensures))
 
 opposite-requires-3 : tie.Need-opposite-requires-3
 opposite-requires-3 c κs =
@@ -40,7 +40,7 @@ least-end-requires c κs =
     let p = z .args .p in
     let q = z .args .q in
     let F = machine (z .args .wide) in
-    high-ready F (sound-machine (z .args .wide)) p q (z .args .u) (z .args .b) (z .pre) (leb (ordinal F (q .b)) (ordinal F (p .b)))
+    high-ready F (sound-machine (z .args .wide)) p q (z .args .u) (z .args .b) (z .pre) (leb (ordinal F (q .sum)) (ordinal F (p .sum)))
     (s .add .result)
     (g .greater .result)
     (g .before .opposite .result)
@@ -66,7 +66,7 @@ returns c =
     let p = z .args .p in
     let q = z .args .q in
     let F = machine (z .args .wide) in
-    high-end F (sound-machine (z .args .wide)) p q (z .args .u) (z .args .b) (z .pre) (leb (ordinal F (q .b)) (ordinal F (p .b)))
+    high-end F (sound-machine (z .args .wide)) p q (z .args .u) (z .args .b) (z .pre) (leb (ordinal F (q .sum)) (ordinal F (p .sum)))
     (s .add .result)
     (g .greater .result)
     (g .before .opposite .result)

@@ -9,7 +9,7 @@ use Rattle.arith.proofs.end.low_end.Statement.{statement}
 use Rattle.arith.proofs.end.low_end.Tie as tie
 
 add-requires : tie.Need-add-requires
-add-requires c κs = (number-of (machine (c .args .wide)) (c .args .p .x) (c .pre .first .0), c .pre .second .0)
+add-requires c κs = (number-of (machine (c .args .wide)) (c .args .p .low) (c .pre .first .0), c .pre .second .0)
 
 lesser-requires : tie.Need-lesser-requires
 lesser-requires c κs = search needs
@@ -20,7 +20,7 @@ least-end-requires c κs =
     let p = z .args .p in
     let q = z .args .q in
     let F = machine (z .args .wide) in
-    low-ready F (sound-machine (z .args .wide)) p q (z .args .u) (z .args .b) (z .pre) (leb (ordinal F (p .b)) (ordinal F (q .b))) (c .before .add .result) (c .lesser .result) (c .before .add .ensures) (c .lesser .ensures)
+    low-ready F (sound-machine (z .args .wide)) p q (z .args .u) (z .args .b) (z .pre) (leb (ordinal F (p .sum)) (ordinal F (q .sum))) (c .before .add .result) (c .lesser .result) (c .before .add .ensures) (c .lesser .ensures)
 
 returns : tie.Need-returns
 returns c =
@@ -29,7 +29,7 @@ returns c =
     let p = z .args .p in
     let q = z .args .q in
     let F = machine (z .args .wide) in
-    low-end F (sound-machine (z .args .wide)) p q (z .args .u) (z .args .b) (z .pre) (leb (ordinal F (p .b)) (ordinal F (q .b))) (l .before .add .result) (l .lesser .result) (c .least-end .result) (l .before .add .ensures) (l .lesser .ensures) (c .least-end .ensures)
+    low-end F (sound-machine (z .args .wide)) p q (z .args .u) (z .args .b) (z .pre) (leb (ordinal F (p .sum)) (ordinal F (q .sum))) (l .before .add .result) (l .lesser .result) (c .least-end .result) (l .before .add .ensures) (l .lesser .ensures) (c .least-end .ensures)
 
 pub low-end-spec : {M : Type 1} → statement M
 low-end-spec = tie.close (tie.spec add-requires lesser-requires least-end-requires returns)

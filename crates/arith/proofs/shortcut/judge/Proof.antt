@@ -20,7 +20,7 @@ sures : (c : tie.Else1) → let z = c .before .before .args in (z .p .sure ≡ t
 sures c = both _ _ (holds (c .before .both .ensures) (c .if1 .left))
 
 -- what is left is in order
-orders : (c : tie.Else2) → let z = c .before .before .before .before .before .before .args in (ordinal (machine (z .wide)) (z .p .x) ≤ ordinal (machine (z .wide)) (z .q .a)) × (ordinal (machine (z .wide)) (z .q .x) ≤ ordinal (machine (z .wide)) (z .p .a))
+orders : (c : tie.Else2) → let z = c .before .before .before .before .before .before .args in (ordinal (machine (z .wide)) (z .p .low) ≤ ordinal (machine (z .wide)) (z .q .high)) × (ordinal (machine (z .wide)) (z .q .low) ≤ ordinal (machine (z .wide)) (z .p .high))
 orders c =
     let t = both _ _ (holds (c .before .both2 .ensures) (c .if2 .left)) in
     (leb-true _ _ (sym (c .before .before .before .at-most .ensures) ∙ t .0), leb-true _ _ (sym (c .before .before .at-most2 .ensures) ∙ t .1))
@@ -82,7 +82,7 @@ returns-4 c =
     let s = sures (c .before .before .before .before .before .before .before .before .before .before) in
     let o = orders (c .before .before .before .before .before .before) in
     passes-none (machine w) (sound-machine w) (z .args .x) (z .args .a) (z .args .b) (z .args .p) (z .args .q) (z .pre .0) (s .0) (s .1)
-    (z .args .u) (z .args .p .b) (ordinal (machine w) (z .args .p .x)) (ordinal (machine w) (z .args .p .a)) (z .pre .3) (z .pre .1) (record { low = le-refl _; high = o .0 }) (record { low = o .1; high = le-refl _ })
+    (z .args .u) (z .args .p .sum) (ordinal (machine w) (z .args .p .low)) (ordinal (machine w) (z .args .p .high)) (z .pre .3) (z .pre .1) (record { low = le-refl _; high = o .0 }) (record { low = o .1; high = le-refl _ })
     (z .pre .0 .first .is) (c .before .passes .ensures (c .if4 .taken))
 
 passes-requires-2 : tie.Need-passes-requires-2
@@ -96,8 +96,8 @@ returns-5 c =
     let s = sures (c .before .before .before .before .before .before .before .before .before .before .before .before) in
     let o = orders (c .before .before .before .before .before .before .before .before) in
     passes-none F (sound-machine w) (z .args .x) (z .args .a) (z .args .b) (z .args .p) (z .args .q) (z .pre .0) (s .0) (s .1)
-    (z .args .u) (z .args .q .b) (ordinal F (z .args .q .a)) (ordinal F (z .args .q .x)) (z .pre .3) (z .pre .1) (record { low = o .0; high = le-refl _ }) (record { low = le-refl _; high = o .1 })
-    (z .pre .0 .second .is ∙ sum-comm (F .fraction) (F .exponent) (ordinal F (z .args .q .x)) (ordinal F (z .args .q .a))) (c .before .passes2 .ensures (c .if5 .taken))
+    (z .args .u) (z .args .q .sum) (ordinal F (z .args .q .high)) (ordinal F (z .args .q .low)) (z .pre .3) (z .pre .1) (record { low = o .0; high = le-refl _ }) (record { low = le-refl _; high = o .1 })
+    (z .pre .0 .second .is ∙ sum-comm (F .fraction) (F .exponent) (ordinal F (z .args .q .low)) (ordinal F (z .args .q .high))) (c .before .passes2 .ensures (c .if5 .taken))
 
 returns-6 : tie.Need-returns-6
 returns-6 c = search needs
