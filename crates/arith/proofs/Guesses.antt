@@ -189,9 +189,6 @@ module _ (F : Format) (ok : Sound F) where
           let fp = chosen (λ (n : ℕ). isFinite F n ≡ true) (not enough) p (t .y) x ps (k .finite) X in
           let fq = chosen (λ (n : ℕ). isFinite F n ≡ true) (not upto) q o a qs (Y⁻ .finite (k .finite)) A in
           record {
-            x-finite = fp;
-            a-finite = fq;
-            number = R .number;
-            is = R .is fp;
+            summed = record { low = fp; high = fq; number = R .number; is = R .is fp };
             trimmed = λ e. rw (ps, qs) (cut enough upto l is-enough is-upto k' (sym is-sure ∙ e));
           }

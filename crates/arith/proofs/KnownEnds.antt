@@ -193,7 +193,7 @@ module _ (F : Format) (ok : Sound F) where
         x-in = record { low = le-refl _; high = d .x-order };
         a-in = record { low = d .a-order; high = le-refl _ };
         b-in = d .first;
-        is = sym (c .first-is);
+        is = sym (c .first .is);
       };
     }
 
@@ -205,7 +205,7 @@ module _ (F : Format) (ok : Sound F) where
         x-in = record { low = d .x-order; high = le-refl _ };
         a-in = record { low = le-refl _; high = d .a-order };
         b-in = d .second;
-        is = sum-comm f e (ordinal F (q .high)) (ordinal F (q .low)) ∙ sym (c .second-is);
+        is = sum-comm f e (ordinal F (q .high)) (ordinal F (q .low)) ∙ sym (c .second .is);
       };
     }
 
@@ -214,32 +214,32 @@ module _ (F : Format) (ok : Sound F) where
     corner-in t k z = chosen (λ (r : ℕ). HasB F X A B (ordinal F r)) t k (p .sum) (q .sum) z first-in second-in
 
     pub corner-finite : (t : Bool) (k : ℕ) → k ≡ cond t (p .sum) (q .sum) → isFinite F k ≡ true
-    corner-finite t k z = inside-finite F b (c .finite) k (chosen (λ (r : ℕ). isNumber F r ≡ true) t k (p .sum) (q .sum) z (c .first-number) (c .second-number)) (corner-in t k z .solution .b-in)
+    corner-finite t k z = inside-finite F b (c .finite) k (chosen (λ (r : ℕ). isNumber F r ≡ true) t k (p .sum) (q .sum) z (c .first .number) (c .second .number)) (corner-in t k z .solution .b-in)
 
     -- ---- the low end
     pub low-ready : (t : Bool) (low k : ℕ) → Adds F (p .low) (q .low) low → k ≡ cond t (p .sum) (q .sum) → Ready F low k u (b .low)
     low-ready t low k s z =
-        let o = lows-below X A B low k u (b .low) (s .is (c .first .0)) refl (corner-in t k z) in
+        let o = lows-below X A B low k u (b .low) (s .is (c .first .low)) refl (corner-in t k z) in
         (s .number, corner-finite t k z, c .u-finite, ends-both F b (c .finite) .0, o .0, o .1)
 
     pub low-end : (t : Bool) (low k : ℕ) (r : End) → Adds F (p .low) (q .low) low → k ≡ cond t (p .sum) (q .sum) → KnownEnd F low k u (b .low) r → LowEnd F p q b r
     low-end t low k r s z w = record {
       finite = w .finite;
-      known = λ n. known-least X A B low k u (b .low) (s .is (c .first .0)) refl (corner-in t k z) ends (c .grid) (r .b) (w .known n);
+      known = λ n. known-least X A B low k u (b .low) (s .is (c .first .low)) refl (corner-in t k z) ends (c .grid) (r .b) (w .known n);
       own = λ n. ap (ordinal F) (w .own n);
     }
 
     -- ---- the high end, in the mirror
     module _ (t : Bool) (high g low k v : ℕ) (s : Adds F (q .high) (p .high) high) (z : g ≡ cond t (p .sum) (q .sum)) (nl : Negates F high low) (nk : Negates F g k) (nv : Negates F (b .high) v) where
       x-ends : Bounded F X
-      x-ends = record { low = finite-at F (p .low) (c .first .0); high = finite-at F (q .high) (c .second .1) }
+      x-ends = record { low = finite-at F (p .low) (c .first .low); high = finite-at F (q .high) (c .second .high) }
 
       a-ends : Bounded F A
-      a-ends = record { low = finite-at F (q .low) (c .second .0); high = finite-at F (p .high) (c .first .1) }
+      a-ends = record { low = finite-at F (q .low) (c .second .low); high = finite-at F (p .high) (c .first .high) }
 
       low-is : ordinal F low ≡ sum F (mirrored F (ordinal F (q .high))) (mirrored F (ordinal F (p .high)))
       low-is =
-          nl .is ∙ ap (mirrored F) (s .is (c .second .1))
+          nl .is ∙ ap (mirrored F) (s .is (c .second .high))
           ∙ sym (sum-mirror f e (ok .some) (ordinal F (q .high)) (ordinal F (p .high)) (finite-twice f e _ (x-ends .high)) (finite-twice f e _ (a-ends .high)))
 
       mirrored-in : HasB F (reflected F X) (reflected F A) (reflected F B) (ordinal F k)

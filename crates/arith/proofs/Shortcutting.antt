@@ -106,7 +106,7 @@ module _ (F : Format) (ok : Sound F) (x a b : I.Interval) where
     -- ---- or the ends are those of the triples
     module _ (c : Corners F b p q) where
       corners-ends : (I' : Interval) → N.Spans (HasB F (leftRangeX F p q) (leftRangeA F p q) (rangeOf F b)) I' → N.ends (span (leftRangeX F p q)) (span (leftRangeA F p q)) I' ≡ narrowing F (rangeOf F x) (rangeOf F a) (rangeOf F b)
-      corners-ends I' s = trimmed-ends f e (ok .some) X A B _ _ _ _ tp tq (c .x-order) (c .a-order) (ordinal F (p .sum)) (ordinal F (q .sum)) (m .first .is) (c .first) (m .second .is) (c .second) I' s
+      corners-ends I' s = trimmed-ends f e (ok .some) X A B _ _ _ _ tp tq (c .x-order) (c .a-order) (ordinal F (p .sum)) (ordinal F (q .sum)) (m .first .summed .is) (c .first) (m .second .summed .is) (c .second) I' s
 
 -- ---- b's own ends
 module _ (F : Format) (b : I.Interval) (p q : Pair) (o : ordinal F (b .low) ≤ ordinal F (b .high)) where
@@ -130,12 +130,8 @@ module _ (F : Format) (ok : Sound F) (x a b : I.Interval) (n : (endsFinite F x �
 module _ (F : Format) (ok : Sound F) (x a b : I.Interval) (n : (endsFinite F x ≡ true) × (endsFinite F a ≡ true) × (endsFinite F b ≡ true)) (o : (isOrdered (rangeOf F x) ≡ true) × (isOrdered (rangeOf F a) ≡ true) × (isOrdered (rangeOf F b) ≡ true)) (p q : Pair) (m : Trimmings F x a b p q) where
   pub corners-of : (u : ℕ) → isFinite F u ≡ true → Gridded F p q u → Corners F b p q → CornersOf F p q u b
   corners-of u t g c = record {
-    first = (m .first .x-finite, m .first .a-finite);
-    second = (m .second .x-finite, m .second .a-finite);
-    first-number = m .first .number;
-    second-number = m .second .number;
-    first-is = m .first .is;
-    second-is = m .second .is;
+    first = m .first .summed;
+    second = m .second .summed;
     finite = n .2;
     u-finite = t;
     grid = g;

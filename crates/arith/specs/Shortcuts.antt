@@ -31,17 +31,17 @@ pub record Checks (F : Format) (p q : ℕ) (t : Checked) : Type 0 where
   pub least : t .sure ≡ true → S.Threshold (F .fraction) (F .exponent) (ordinal F p) (ordinal F q) (ordinal F (t .y))
 
 -- ---- both operands
--- where sure, the operands from x on and up to a that make a sum inside b lie from t's low on and up to t's high, whose sum is t's sum
-pub record Trims (F : Format) (x a : ℕ) (b : Interval) (t : Pair) : Type 0 where
-  pub x-finite : isFinite F (t .low) ≡ true
-  pub a-finite : isFinite F (t .high) ≡ true
+-- t's sum is that of its ends, which are finite
+pub record Summed (F : Format) (t : Pair) : Type 0 where
+  pub low : isFinite F (t .low) ≡ true
+  pub high : isFinite F (t .high) ≡ true
   pub number : isNumber F (t .sum) ≡ true
   pub is : ordinal F (t .sum) ≡ sum F (ordinal F (t .low)) (ordinal F (t .high))
-  pub trimmed : t .sure ≡ true → S.Trimmed (F .fraction) (F .exponent) (span (rangeOf F b)) (ordinal F x) (ordinal F a) (ordinal F (t .low)) (ordinal F (t .high))
 
--- the operands of a pair are finite
-abbrev pub PairFinite : Format → Pair → Type 0
-PairFinite F p = (isFinite F (p .low) ≡ true) × (isFinite F (p .high) ≡ true)
+-- where sure, the operands from x on and up to a that make a sum inside b lie from t's low end on and up to its high end
+pub record Trims (F : Format) (x a : ℕ) (b : Interval) (t : Pair) : Type 0 where
+  pub summed : Summed F t
+  pub trimmed : t .sure ≡ true → S.Trimmed (F .fraction) (F .exponent) (span (rangeOf F b)) (ordinal F x) (ordinal F a) (ordinal F (t .low)) (ordinal F (t .high))
 
 -- p trims x's low and a's high end, q a's low and x's high end
 pub record Trimmings (F : Format) (x a b : Interval) (p q : Pair) : Type 0 where
@@ -82,12 +82,8 @@ pub record Corners (F : Format) (b : Interval) (p q : Pair) : Type 0 where
 
 -- corners with the grid, for b's ends
 pub record CornersOf (F : Format) (p q : Pair) (u : ℕ) (b : Interval) : Type 0 where
-  pub first : PairFinite F p
-  pub second : PairFinite F q
-  pub first-number : isNumber F (p .sum) ≡ true
-  pub second-number : isNumber F (q .sum) ≡ true
-  pub first-is : ordinal F (p .sum) ≡ sum F (ordinal F (p .low)) (ordinal F (p .high))
-  pub second-is : ordinal F (q .sum) ≡ sum F (ordinal F (q .low)) (ordinal F (q .high))
+  pub first : Summed F p
+  pub second : Summed F q
   pub finite : endsFinite F b ≡ true
   pub u-finite : isFinite F u ≡ true
   pub grid : Gridded F p q u

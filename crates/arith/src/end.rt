@@ -5,7 +5,7 @@ ghost use Prim.Native.Nat.{_≤_};
 ghost use Rattle.arith.specs.Formats.{isFinite, ordinal};
 ghost use Rattle.arith.specs.Intervals.{endsFinite};
 ghost use Rattle.arith.specs.Machines.{machine, isNumber};
-ghost use Rattle.arith.specs.Shortcuts.{PairFinite, leftX, leftA, Corners, CornersOf, KnownEnd, LowEnd, HighEnd, Reached, Mirrors};
+ghost use Rattle.arith.specs.Shortcuts.{Summed, leftX, leftA, Corners, CornersOf, KnownEnd, LowEnd, HighEnd, Reached, Mirrors};
 use crate::guess::Pair;
 use crate::interval::Interval;
 use crate::machine::add;
@@ -105,7 +105,7 @@ pub(crate) fn high_end(wide: bool, p: Pair, q: Pair, u: u64, b: Interval) -> End
 
 // Whether each end of b that is not known (low and high say which are) is the sum of two numbers that p and q leave. False says nothing.
 pub(crate) fn attained(wide: bool, low: bool, high: bool, p: Pair, q: Pair, b: Interval) -> bool
-    requires { ⌜ (PairFinite (machine wide) p) × (PairFinite (machine wide) q) × (endsFinite (machine wide) b ≡ true) × (Corners (machine wide) b p q) ⌝ }
+    requires { ⌜ (Summed (machine wide) p) × (Summed (machine wide) q) × (endsFinite (machine wide) b ≡ true) × (Corners (machine wide) b p q) ⌝ }
     ensures { λ r. ⌜ (r ≡ true → (low ≡ false → Reached (machine wide) (leftX p q) (leftA p q) (b .low)) × (high ≡ false → Reached (machine wide) (leftX p q) (leftA p q) (b .high))) ⌝ }
 {
     let x = Interval {

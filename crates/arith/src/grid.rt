@@ -4,7 +4,7 @@ ghost use mathlib.Core.Bool.{true};
 ghost use Rattle.arith.specs.Formats.{isFinite};
 ghost use Rattle.arith.specs.Intervals.{endsFinite};
 ghost use Rattle.arith.specs.Machines.{machine, isNumber};
-ghost use Rattle.arith.specs.Shortcuts.{Gridded, Passes};
+ghost use Rattle.arith.specs.Shortcuts.{Summed, Gridded, Passes};
 use crate::guess::Pair;
 use crate::half_ulp::half_ulp;
 use crate::interval::Interval;
@@ -21,7 +21,7 @@ use crate::words::shift_left;
 
 // An ulp of the end nearest zero, which is half an ulp one binade up, where the operands that p and q leave have opposite signs and that end is normal; else 0.
 pub(crate) fn grid_step(wide: bool, p: Pair, q: Pair) -> u64
-    requires { ⌜ (isFinite (machine wide) (p .low) ≡ true) × (isFinite (machine wide) (p .high) ≡ true) × (isFinite (machine wide) (q .low) ≡ true) × (isFinite (machine wide) (q .high) ≡ true) ⌝ }
+    requires { ⌜ (Summed (machine wide) p) × (Summed (machine wide) q) ⌝ }
     ensures { λ u. ⌜ (isFinite (machine wide) u ≡ true) × (Gridded (machine wide) p q u) ⌝ }
 {
     let format = format_at(wide);

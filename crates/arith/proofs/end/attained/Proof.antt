@@ -14,10 +14,10 @@ use Rattle.arith.proofs.end.attained.Tie as tie
 
 -- the ends of what is left are finite
 x-finite : (c : tie.Start) → endsFinite (machine (c .args .wide)) (leftX (c .args .p) (c .args .q)) ≡ true
-x-finite c = ends-of (machine (c .args .wide)) (leftX (c .args .p) (c .args .q)) (c .pre .0 .0) (c .pre .1 .1)
+x-finite c = ends-of (machine (c .args .wide)) (leftX (c .args .p) (c .args .q)) (c .pre .0 .low) (c .pre .1 .high)
 
 a-finite : (c : tie.Start) → endsFinite (machine (c .args .wide)) (leftA (c .args .p) (c .args .q)) ≡ true
-a-finite c = ends-of (machine (c .args .wide)) (leftA (c .args .p) (c .args .q)) (c .pre .1 .0) (c .pre .0 .1)
+a-finite c = ends-of (machine (c .args .wide)) (leftA (c .args .p) (c .args .q)) (c .pre .1 .low) (c .pre .0 .high)
 
 -- the low end
 low-reached : (c : tie.Joined1) → let z = c .before .args in z .low ≡ false → Reached (machine (z .wide)) (leftX (z .p) (z .q)) (leftA (z .p) (z .q)) (z .b .low)

@@ -10,7 +10,7 @@ use Rattle.arith.proofs.end.high_end.Statement.{statement}
 use Rattle.arith.proofs.end.high_end.Tie as tie
 
 add-requires : tie.Need-add-requires
-add-requires c κs = (number-of (machine (c .args .wide)) (c .args .q .high) (c .pre .second .1), c .pre .first .1)
+add-requires c κs = (number-of (machine (c .args .wide)) (c .args .q .high) (c .pre .second .high), c .pre .first .high)
 
 opposite-requires : tie.Need-opposite-requires
 opposite-requires c κs = search needs

@@ -9,7 +9,7 @@ use Rattle.arith.proofs.end.low_end.Statement.{statement}
 use Rattle.arith.proofs.end.low_end.Tie as tie
 
 add-requires : tie.Need-add-requires
-add-requires c κs = (number-of (machine (c .args .wide)) (c .args .p .low) (c .pre .first .0), c .pre .second .0)
+add-requires c κs = (number-of (machine (c .args .wide)) (c .args .p .low) (c .pre .first .low), c .pre .second .low)
 
 lesser-requires : tie.Need-lesser-requires
 lesser-requires c κs = search needs

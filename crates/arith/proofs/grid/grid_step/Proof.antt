@@ -27,13 +27,13 @@ size-requires : tie.Need-size-requires
 size-requires c κs =
     let z = c .before .before .before .before in
     let g = z .before in
-    chosen (FitsWidth (g .args .wide)) (ltb (g .args .p .low) (z .format-at .result .sign)) _ _ _ (c .before .choose .ensures) (finite-width _ _ (g .pre .0)) (finite-width _ _ (g .pre .2))
+    chosen (FitsWidth (g .args .wide)) (ltb (g .args .p .low) (z .format-at .result .sign)) _ _ _ (c .before .choose .ensures) (finite-width _ _ (g .pre .0 .low)) (finite-width _ _ (g .pre .1 .low))
 
 size-requires-2 : tie.Need-size-requires-2
 size-requires-2 c κs =
     let z = c .before .before .before .before .before in
     let g = z .before in
-    chosen (FitsWidth (g .args .wide)) (ltb (g .args .p .low) (z .format-at .result .sign)) _ _ _ (c .before .choose2 .ensures) (finite-width _ _ (g .pre .1)) (finite-width _ _ (g .pre .3))
+    chosen (FitsWidth (g .args .wide)) (ltb (g .args .p .low) (z .format-at .result .sign)) _ _ _ (c .before .choose2 .ensures) (finite-width _ _ (g .pre .0 .high)) (finite-width _ _ (g .pre .1 .high))
 
 min-requires : tie.Need-min-requires
 min-requires c κs = search needs
@@ -46,7 +46,7 @@ lesser c =
     let p = z .before .args .p in
     let q = z .before .args .q in
     let t = c .before .before .before .before .choose in
-    omega (arith, c .min .ensures, c .before .before .size .ensures, size-chosen (machine w) (sound-machine w) (ltb (p .low) (z .format-at .result .sign)) (p .low) (q .low) (t .result) (t .ensures) (z .before .pre .0) (z .before .pre .2))
+    omega (arith, c .min .ensures, c .before .before .size .ensures, size-chosen (machine w) (sound-machine w) (ltb (p .low) (z .format-at .result .sign)) (p .low) (q .low) (t .result) (t .ensures) (z .before .pre .0 .low) (z .before .pre .1 .low))
 
 shift-left-requires : tie.Need-shift-left-requires
 shift-left-requires c κs =
@@ -91,7 +91,7 @@ returns c =
     let minus = s .before .before .before .before .choose2 in
     let m = s .before .min in
     let u = h .half-ulp in
-    gridded F (sound-machine (z .before .args .wide)) p q (z .before .pre .1) (z .before .pre .3) (plus .result) (minus .result) (m .result) (u .result)
+    gridded F (sound-machine (z .before .args .wide)) p q (z .before .pre .0 .high) (z .before .pre .1 .high) (plus .result) (minus .result) (m .result) (u .result)
     (subst (λ (n : ℕ). HalfUlp F (m .result + n) (u .result)) (binade s) (u .ensures))
     (ltb (p .low) (z .format-at .result .sign)) (c .choose3 .result) (plus .ensures) (minus .ensures)
     (omega (arith, m .ensures, s .before .before .size2 .ensures, s .before .before .before .size .ensures))

@@ -35,13 +35,13 @@ at-most-requires : tie.Need-at-most-requires
 at-most-requires c κs =
     let z = c .before .before in
     let F = machine (z .args .wide) in
-    (number-of F _ (z .pre .0 .first .x-finite), number-of F _ (z .pre .0 .second .a-finite))
+    (number-of F _ (z .pre .0 .first .summed .low), number-of F _ (z .pre .0 .second .summed .high))
 
 at-most-requires-2 : tie.Need-at-most-requires-2
 at-most-requires-2 c κs =
     let z = c .before .before .before in
     let F = machine (z .args .wide) in
-    (number-of F _ (z .pre .0 .second .x-finite), number-of F _ (z .pre .0 .first .a-finite))
+    (number-of F _ (z .pre .0 .second .summed .low), number-of F _ (z .pre .0 .first .summed .high))
 
 both-requires-2 : tie.Need-both-requires-2
 both-requires-2 c κs = search needs
@@ -55,10 +55,10 @@ returns-2 c =
     (sym (ap₂ _&&_ (c .before .before .before .at-most .ensures) (c .before .before .at-most2 .ensures)) ∙ fails (c .before .both2 .ensures) (c .if2 .taken))
 
 within-requires : tie.Need-within-requires
-within-requires c κs = let z = c .before .before .before .before .before .before in (z .pre .0 .first .number, z .pre .1)
+within-requires c κs = let z = c .before .before .before .before .before .before in (z .pre .0 .first .summed .number, z .pre .1)
 
 within-requires-2 : tie.Need-within-requires-2
-within-requires-2 c κs = let z = c .before .before .before .before .before .before .before in (z .pre .0 .second .number, z .pre .1)
+within-requires-2 c κs = let z = c .before .before .before .before .before .before .before in (z .pre .0 .second .summed .number, z .pre .1)
 
 both-requires-3 : tie.Need-both-requires-3
 both-requires-3 c κs = search needs
@@ -73,7 +73,7 @@ returns-3 c =
     (s .0, s .1, record { x-order = o .0; a-order = o .1; first = record { low = leb-true _ _ (i .0); high = leb-true _ _ (i .1) }; second = record { low = leb-true _ _ (j .0); high = leb-true _ _ (j .1) } })
 
 passes-requires : tie.Need-passes-requires
-passes-requires c κs = let z = c .before .before .before .before .before .before .before .before .before .before in (z .pre .0 .first .number, z .pre .2, z .pre .1)
+passes-requires c κs = let z = c .before .before .before .before .before .before .before .before .before .before in (z .pre .0 .first .summed .number, z .pre .2, z .pre .1)
 
 returns-4 : tie.Need-returns-4
 returns-4 c =
@@ -83,10 +83,10 @@ returns-4 c =
     let o = orders (c .before .before .before .before .before .before) in
     passes-none (machine w) (sound-machine w) (z .args .x) (z .args .a) (z .args .b) (z .args .p) (z .args .q) (z .pre .0) (s .0) (s .1)
     (z .args .u) (z .args .p .sum) (ordinal (machine w) (z .args .p .low)) (ordinal (machine w) (z .args .p .high)) (z .pre .3) (z .pre .1) (record { low = le-refl _; high = o .0 }) (record { low = o .1; high = le-refl _ })
-    (z .pre .0 .first .is) (c .before .passes .ensures (c .if4 .taken))
+    (z .pre .0 .first .summed .is) (c .before .passes .ensures (c .if4 .taken))
 
 passes-requires-2 : tie.Need-passes-requires-2
-passes-requires-2 c κs = let z = c .before .before .before .before .before .before .before .before .before .before .before .before in (z .pre .0 .second .number, z .pre .2, z .pre .1)
+passes-requires-2 c κs = let z = c .before .before .before .before .before .before .before .before .before .before .before .before in (z .pre .0 .second .summed .number, z .pre .2, z .pre .1)
 
 returns-5 : tie.Need-returns-5
 returns-5 c =
@@ -97,7 +97,7 @@ returns-5 c =
     let o = orders (c .before .before .before .before .before .before .before .before) in
     passes-none F (sound-machine w) (z .args .x) (z .args .a) (z .args .b) (z .args .p) (z .args .q) (z .pre .0) (s .0) (s .1)
     (z .args .u) (z .args .q .sum) (ordinal F (z .args .q .high)) (ordinal F (z .args .q .low)) (z .pre .3) (z .pre .1) (record { low = o .0; high = le-refl _ }) (record { low = le-refl _; high = o .1 })
-    (z .pre .0 .second .is ∙ sum-comm (F .fraction) (F .exponent) (ordinal F (z .args .q .low)) (ordinal F (z .args .q .high))) (c .before .passes2 .ensures (c .if5 .taken))
+    (z .pre .0 .second .summed .is ∙ sum-comm (F .fraction) (F .exponent) (ordinal F (z .args .q .low)) (ordinal F (z .args .q .high))) (c .before .passes2 .ensures (c .if5 .taken))
 
 returns-6 : tie.Need-returns-6
 returns-6 c = search needs

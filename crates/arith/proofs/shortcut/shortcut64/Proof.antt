@@ -68,7 +68,7 @@ trim-requires-2 : tie.Need-trim-requires-2
 trim-requires-2 c κs = let z = c .before .before .before .before .before .before .args in trim-takes (formatOf 64) (sound 64) (z .x) (z .a) (z .b) (finites (c .before .before .before .before)) (orders (c .before .before)) _ (c .before .half-gaps .ensures) .1
 
 grid-step-requires : tie.Need-grid-step-requires
-grid-step-requires c κs = search needs
+grid-step-requires c κs = (c .before .trim .ensures .summed, c .trim2 .ensures .summed)
 
 judge-requires : tie.Need-judge-requires
 judge-requires c κs = (trims (c .before), finites (c .before .before .before .before .before .before) .2, c .grid-step .ensures .0, c .grid-step .ensures .1)
