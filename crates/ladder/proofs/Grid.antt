@@ -1,6 +1,6 @@
 -- The grid of the sums: where every operand is a multiple of 2^k units, so is every finite sum, since rounding keeps multiples; hence two different sums differ by 2^k or more, and next to a sum lies none nearer than that.
 -- Far from zero every value is a multiple. Rests on the laws of Multiples and, for the side of an ordinal that a sum lies on, of Skips. Assumes nothing.
-use mathlib.Core.Path.{_≡_, subst}
+use mathlib.Core.Path.{subst}
 use mathlib.Core.Logic.{inl, inr}
 use Prim.Native.Nat.{ℕ, _+_, _-_, _^_, _≤_, _<_, _∣_}
 use native.Mathlib.Nat.{dvd-zero, dvd-add, dvd-sub}
