@@ -26,7 +26,7 @@ use Rattle.arith.specs.Formats.{Sound, isFinite, Finite, ordinal, sum, m
 use Rattle.arith.specs.Intervals.{endsFinite, isOrdered, rangeOf, intervalOf, span}
 use Rattle.arith.specs.Narrows.{narrowing, narrowAnswer, narrowFinite, narrowIn}
 use Rattle.arith.specs.Searches.{HasB}
-use Rattle.arith.specs.Shortcuts.{Trimmings, leftRangeX, leftRangeA, leftX, leftA, Gridded, Passes, over, under, Corners, CornersOf, LowEnd, HighEnd, Reached}
+use Rattle.arith.specs.Shortcuts.{Admitted, Trimmings, leftRangeX, leftRangeA, leftX, leftA, Gridded, Passes, over, under, Corners, CornersOf, LowEnd, HighEnd, Reached, endsOf, Answers}
 use Rattle.arith.proofs.Intervals.{ends-both}
 use Rattle.arith.proofs.Refusing.{passed}
 
@@ -40,6 +40,11 @@ not-both false q e = inl e
 by-cases : {L : Type 0} (k : Bool) → (k ≡ true → L) → (k ≡ false → L) → L
 by-cases true g h = g refl
 by-cases false g h = h refl
+
+-- an interval in order
+order-of : (F : Format) (i : I.Interval) → isOrdered (rangeOf F i) ≡ true → ordinal F (i .low) ≤ ordinal F (i .high)
+unfolding isOrdered
+order-of F i h = leb-true _ _ h
 
 module _ (F : Format) (ok : Sound F) (x a b : I.Interval) where
   abbrev f : ℕ
@@ -58,23 +63,19 @@ module _ (F : Format) (ok : Sound F) (x a b : I.Interval) where
   B = span (rangeOf F b)
 
   -- ---- the answer of finite intervals in order
-  module _ (n : (endsFinite F x ≡ true) × (endsFinite F a ≡ true) × (endsFinite F b ≡ true)) (o : (isOrdered (rangeOf F x) ≡ true) × (isOrdered (rangeOf F a) ≡ true) × (isOrdered (rangeOf F b) ≡ true)) where
+  module _ (t : Admitted F x a b) where
     in-format : (r : Narrowed) → r ≡ narrowAnswer F (narrowing F (rangeOf F x) (rangeOf F a) (rangeOf F b)) → r ≡ narrowIn F x a b
     unfolding narrowIn narrowFinite
     in-format r h =
-        passed Narrowed.Refused 2 (endsFinite F x) _ (n .0)
-        (passed Narrowed.Refused 2 (endsFinite F a) _ (n .1)
-        (passed Narrowed.Refused 2 (endsFinite F b) _ (n .2)
-        (passed Narrowed.Refused 3 (isOrdered (rangeOf F x)) _ (o .0)
-        (passed Narrowed.Refused 3 (isOrdered (rangeOf F a)) _ (o .1)
-        (passed Narrowed.Refused 3 (isOrdered (rangeOf F b)) _ (o .2) h)))))
+        passed Narrowed.Refused 2 (endsFinite F x) _ (t .finite .0)
+        (passed Narrowed.Refused 2 (endsFinite F a) _ (t .finite .1)
+        (passed Narrowed.Refused 2 (endsFinite F b) _ (t .finite .2)
+        (passed Narrowed.Refused 3 (isOrdered (rangeOf F x)) _ (t .ordered .0)
+        (passed Narrowed.Refused 3 (isOrdered (rangeOf F a)) _ (t .ordered .1)
+        (passed Narrowed.Refused 3 (isOrdered (rangeOf F b)) _ (t .ordered .2) h)))))
 
     pub none-answer : N.none ≡ narrowing F (rangeOf F x) (rangeOf F a) (rangeOf F b) → Narrowed.Refused (refusal 11) ≡ narrowIn F x a b
     none-answer h = in-format (Narrowed.Refused (refusal 11)) (ap (narrowAnswer F) h)
-
-    order-of : (i : I.Interval) → isOrdered (rangeOf F i) ≡ true → ordinal F (i .low) ≤ ordinal F (i .high)
-    unfolding isOrdered
-    order-of i h = leb-true _ _ h
 
   module _ (p q : Pair) (m : Trimmings F x a b p q) (sp : p .sure ≡ true) (sq : q .sure ≡ true) where
     abbrev tp : S.Trimmed f e B (X .low) (A .high) (ordinal F (p .low)) (ordinal F (p .high))
@@ -120,29 +121,29 @@ module _ (F : Format) (b : I.Interval) (p q : Pair) (o : ordinal F (b .low) ≤ 
   high-end-greatest t l w = by-cases (t .known) (l .known) (λ h. rw (l .own h) (record { holds = reached-b (b .high) o (le-refl _) (w h); most = λ y v. v .solution .b-in .high }))
 
 -- ---- what the trims take
-module _ (F : Format) (ok : Sound F) (x a b : I.Interval) (n : (endsFinite F x ≡ true) × (endsFinite F a ≡ true) × (endsFinite F b ≡ true)) (o : (isOrdered (rangeOf F x) ≡ true) × (isOrdered (rangeOf F a) ≡ true) × (isOrdered (rangeOf F b) ≡ true)) where
+module _ (F : Format) (ok : Sound F) (x a b : I.Interval) (t : Admitted F x a b) where
   pub trim-takes : (h : I.Interval) → endsFinite F h ≡ true
       → ((isFinite F (x .low) ≡ true) × (isFinite F (a .high) ≡ true) × (endsFinite F b ≡ true) × (endsFinite F h ≡ true) × (ordinal F (b .low) ≤ ordinal F (b .high)))
       × ((isFinite F (a .low) ≡ true) × (isFinite F (x .high) ≡ true) × (endsFinite F b ≡ true) × (endsFinite F h ≡ true) × (ordinal F (b .low) ≤ ordinal F (b .high)))
-  trim-takes h t = let i = ends-both F x (n .0) in let j = ends-both F a (n .1) in let l = order-of F ok x a b n o b (o .2) in ((i .0, j .1, n .2, t, l), (j .0, i .1, n .2, t, l))
+  trim-takes h g = let i = ends-both F x (t .finite .0) in let j = ends-both F a (t .finite .1) in let n = t .finite .2 in let l = order-of F b (t .ordered .2) in ((i .0, j .1, n, g, l), (j .0, i .1, n, g, l))
 
 -- ---- the answer by the corners and b's ends
-module _ (F : Format) (ok : Sound F) (x a b : I.Interval) (n : (endsFinite F x ≡ true) × (endsFinite F a ≡ true) × (endsFinite F b ≡ true)) (o : (isOrdered (rangeOf F x) ≡ true) × (isOrdered (rangeOf F a) ≡ true) × (isOrdered (rangeOf F b) ≡ true)) (p q : Pair) (m : Trimmings F x a b p q) where
+module _ (F : Format) (ok : Sound F) (x a b : I.Interval) (t : Admitted F x a b) (p q : Pair) (m : Trimmings F x a b p q) where
   pub corners-of : (u : ℕ) → isFinite F u ≡ true → Gridded F p q u → Corners F b p q → CornersOf F p q u b
-  corners-of u t g c = record {
+  corners-of u v g c = record {
     first = m .first .summed;
     second = m .second .summed;
-    finite = n .2;
-    u-finite = t;
+    finite = t .finite .2;
+    u-finite = v;
     grid = g;
     corners = c;
   }
 
   pub ends-answer : (p .sure ≡ true) × (q .sure ≡ true) × Corners F b p q → (l h : End) → LowEnd F p q b l → HighEnd F p q b h
       → (l .known ≡ false → Reached F (leftX p q) (leftA p q) (b .low)) × (h .known ≡ false → Reached F (leftX p q) (leftA p q) (b .high))
-      → (i j k : I.Interval) → i ≡ intervalOf F (leftRangeX F p q) → j ≡ intervalOf F (leftRangeA F p q) → k ≡ intervalOf F (record { low = ordinal F (l .b); high = ordinal F (h .b) }) → Narrowed.Ends i j k ≡ narrowIn F x a b
-  ends-answer s l h lo hi w i j k ei ej ek =
-      let d = order-of F ok x a b n o b (o .2) in
+      → Answers (narrowIn F x a b) (endsOf F p q (l .b) (h .b))
+  ends-answer s l h lo hi w =
+      let d = order-of F b (t .ordered .2) in
       let B' : Interval = record { low = ordinal F (l .b); high = ordinal F (h .b) } in
       let e = corners-ends F ok x a b p q m (s .0) (s .1) (s .2) B' (spans-of (low-end-least F b p q d l lo (w .0)) (high-end-greatest F b p q d h hi (w .1))) in
-      in-format F ok x a b n o (Narrowed.Ends i j k) (rw (ei, ej, ek) (ap (narrowAnswer F) e))
+      in-format F ok x a b t (Narrowed.Ends (intervalOf F (leftRangeX F p q)) (intervalOf F (leftRangeA F p q)) (intervalOf F (record { low = ordinal F (l .b); high = ordinal F (h .b) }))) (ap (narrowAnswer F) e)

@@ -19,10 +19,16 @@ use Rattle.arith.specs.declared.narrow.Narrowed.{Narrowed}
 use Rattle.arith.specs.declared.narrow.Narrowed.the-variants as Narrowed
 use Rattle.arith.specs.Refusals.{refusal}
 use Rattle.arith.specs.Formats.{isFinite, Finite, ordinal, sum, mirrored}
-use Rattle.arith.specs.Intervals.{rangeOf, span, endsFinite}
+use Rattle.arith.specs.Intervals.{rangeOf, span, endsFinite, isOrdered, intervalOf}
 use Rattle.arith.specs.Machines.{isNumber}
 use Rattle.arith.specs.Narrows.{narrowing}
 use Rattle.arith.specs.Searches.{HasB}
+
+-- ---- the intervals
+-- their ends are finite and in order
+pub record Admitted (F : Format) (x a b : Interval) : Type 0 where
+  pub finite : (endsFinite F x ≡ true) × (endsFinite F a ≡ true) × (endsFinite F b ≡ true)
+  pub ordered : (isOrdered (rangeOf F x) ≡ true) × (isOrdered (rangeOf F a) ≡ true) × (isOrdered (rangeOf F b) ≡ true)
 
 -- ---- one operand
 -- where sure, the operands with a sum with p of at least q are those from y on
@@ -133,6 +139,10 @@ pub record HighEnd (F : Format) (p q : Pair) (b : Interval) (t : End) : Type 0 w
   pub own : t .known ≡ false → ordinal F (t .b) ≡ ordinal F (b .high)
 
 -- ---- the whole
+-- what p and q leave, and b from l to h, each end in its one pattern
+abbrev pub endsOf : Format → Pair → Pair → ℕ → ℕ → Shortcut
+endsOf F p q l h = Shortcut.Ends (intervalOf F (leftRangeX F p q)) (intervalOf F (leftRangeA F p q)) (intervalOf F (record { low = ordinal F l; high = ordinal F h }))
+
 -- the answer n, where one is given
 abbrev pub Answers : Narrowed → Shortcut → Type 0
 Answers n (Shortcut.Ends x a b) = Narrowed.Ends x a b ≡ n

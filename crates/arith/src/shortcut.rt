@@ -6,7 +6,7 @@ ghost use Rattle.arith.specs.Formats.{isKnown, formatOf, isFinite, ordin
 ghost use Rattle.arith.specs.Intervals.{endsFinite, rangeOf, isOrdered, intervalOf};
 ghost use Rattle.arith.specs.Machines.{machine, isNumber, FitsWidth};
 ghost use Rattle.arith.specs.Narrows.{narrowIn};
-ghost use Rattle.arith.specs.Shortcuts.{Trimmings, Gridded, Judges, Answers};
+ghost use Rattle.arith.specs.Shortcuts.{Admitted, Summed, Trimmings, Gridded, Judges, endsOf, Answers};
 use crate::end::attained;
 use crate::end::high_end;
 use crate::end::low_end;
@@ -83,6 +83,16 @@ fn all_finite(wide: bool, x: Interval, a: Interval, b: Interval) -> bool
     )
 }
 
+// Whether three intervals have finite ends in order.
+fn admitted(wide: bool, x: Interval, a: Interval, b: Interval) -> bool
+    ensures { λ r. ⌜ (r ≡ true → Admitted (machine wide) x a b) ⌝ }
+{
+    if !all_finite(wide, x, a, b) {
+        return false;
+    }
+    in_order(wide, x, a, b)
+}
+
 // Half the gaps beyond b's ends, with the sign set.
 fn half_gaps(wide: bool, b: Interval) -> Interval
     requires { ⌜ endsFinite (machine wide) b ≡ true ⌝ }
@@ -136,14 +146,23 @@ fn canonical_ends(wide: bool, low: u64, high: u64) -> Interval
     }
 }
 
+// What p and q leave, and b from low to high.
+fn ends_of(wide: bool, p: Pair, q: Pair, low: u64, high: u64) -> Shortcut
+    requires { ⌜ (Summed (machine wide) p) × (Summed (machine wide) q) × (isFinite (machine wide) low ≡ true) × (isFinite (machine wide) high ≡ true) ⌝ }
+    ensures { λ r. ⌜ r ≡ endsOf (machine wide) p q low high ⌝ }
+{
+    Shortcut::Ends {
+        x: canonical_ends(wide, p.low, q.high),
+        a: canonical_ends(wide, q.low, p.high),
+        b: canonical_ends(wide, low, high),
+    }
+}
+
 // The narrowing at width 64, if a few sums show it.
 fn shortcut64(x: Interval, a: Interval, b: Interval) -> Shortcut
     ensures { λ r. ⌜ Answers (narrowIn (formatOf 64) x a b) r ⌝ }
 {
-    if !all_finite(true, x, a, b) {
-        return Shortcut::Unsure;
-    }
-    if !in_order(true, x, a, b) {
+    if !admitted(true, x, a, b) {
         return Shortcut::Unsure;
     }
     let h = half_gaps(true, b);
@@ -161,11 +180,7 @@ fn shortcut64(x: Interval, a: Interval, b: Interval) -> Shortcut
                     return Shortcut::Unsure;
                 }
             }
-            Shortcut::Ends {
-                x: canonical_ends(true, p.low, q.high),
-                a: canonical_ends(true, q.low, p.high),
-                b: canonical_ends(true, low.b, high.b),
-            }
+            ends_of(true, p, q, low.b, high.b)
         }
     }
 }
@@ -174,10 +189,7 @@ fn shortcut64(x: Interval, a: Interval, b: Interval) -> Shortcut
 fn shortcut32(x: Interval, a: Interval, b: Interval) -> Shortcut
     ensures { λ r. ⌜ Answers (narrowIn (formatOf 32) x a b) r ⌝ }
 {
-    if !all_finite(false, x, a, b) {
-        return Shortcut::Unsure;
-    }
-    if !in_order(false, x, a, b) {
+    if !admitted(false, x, a, b) {
         return Shortcut::Unsure;
     }
     let h = half_gaps(false, b);
@@ -195,11 +207,7 @@ fn shortcut32(x: Interval, a: Interval, b: Interval) -> Shortcut
                     return Shortcut::Unsure;
                 }
             }
-            Shortcut::Ends {
-                x: canonical_ends(false, p.low, q.high),
-                a: canonical_ends(false, q.low, p.high),
-                b: canonical_ends(false, low.b, high.b),
-            }
+            ends_of(false, p, q, low.b, high.b)
         }
     }
 }

@@ -6,72 +6,62 @@ use borrow.Author.Needs.{needs}
 use borrow.Author.Tests.{not-false}
 use Rattle.arith.specs.declared.shortcut.Verdict.the-variants as Verdict
 use Rattle.arith.specs.Formats.{formatOf}
-use Rattle.arith.specs.Intervals.{endsFinite, isOrdered, rangeOf}
-use Rattle.arith.specs.Shortcuts.{Trimmings, Judges, Corners, CornersOf, Reached, leftX, leftA}
+use Rattle.arith.specs.Shortcuts.{Admitted, Trimmings, Judges, Corners, CornersOf, Reached, leftX, leftA}
 use Rattle.arith.proofs.Formats.{sound, both}
 use Rattle.arith.proofs.Refusing.{holds}
 use Rattle.arith.proofs.Shortcutting.{none-answer, trim-takes, corners-of, ends-answer}
 use Rattle.arith.proofs.shortcut.shortcut32.Statement.{statement}
 use Rattle.arith.proofs.shortcut.shortcut32.Tie as tie
 
--- the intervals are finite and in order
-finites : (c : tie.Else1) → let z = c .before .before .args in (endsFinite (formatOf 32) (z .x) ≡ true) × (endsFinite (formatOf 32) (z .a) ≡ true) × (endsFinite (formatOf 32) (z .b) ≡ true)
-finites c = c .before .all-finite .ensures (not-false _ (c .if1 .left))
-
-orders : (c : tie.Else2) → let z = c .before .before .before .before .args in (isOrdered (rangeOf (formatOf 32) (z .x)) ≡ true) × (isOrdered (rangeOf (formatOf 32) (z .a)) ≡ true) × (isOrdered (rangeOf (formatOf 32) (z .b)) ≡ true)
-orders c = c .before .in-order .ensures (not-false _ (c .if2 .left))
+-- the intervals are admitted
+admits : (c : tie.Else1) → let z = c .before .before .args in Admitted (formatOf 32) (z .x) (z .a) (z .b)
+admits c = c .before .admitted .ensures (not-false _ (c .if1 .left))
 
 -- the trims
-trims : (c : tie.After-trim2) → let z = c .before .before .before .before .before .before .before .args in Trimmings (formatOf 32) (z .x) (z .a) (z .b) (c .before .trim .result) (c .trim2 .result)
+trims : (c : tie.After-trim2) → let z = c .before .before .before .before .before .args in Trimmings (formatOf 32) (z .x) (z .a) (z .b) (c .before .trim .result) (c .trim2 .result)
 trims c = record { first = c .before .trim .ensures; second = c .trim2 .ensures }
 
 -- they are corners
-corners : (c : tie.After-enum-told3) → let z = c .before .before .before .before .before .before .before .before .before .before .before .args in (c .before .before .before .before .before .trim .result .sure ≡ true) × (c .before .before .before .before .trim2 .result .sure ≡ true) × Corners (formatOf 32) (z .b) (c .before .before .before .before .before .trim .result) (c .before .before .before .before .trim2 .result)
+corners : (c : tie.After-enum-told3) → let z = c .before .before .before .before .before .before .before .before .before .args in (c .before .before .before .before .before .trim .result .sure ≡ true) × (c .before .before .before .before .trim2 .result .sure ≡ true) × Corners (formatOf 32) (z .b) (c .before .before .before .before .before .trim .result) (c .before .before .before .before .trim2 .result)
 corners c =
-    let z = c .before .before .before .before .before .before .before .before .before .before .before .args in
+    let z = c .before .before .before .before .before .before .before .before .before .args in
     let j : Judges (formatOf 32) (z .x) (z .a) (z .b) (c .before .before .before .before .before .trim .result) (c .before .before .before .before .trim2 .result) Verdict.Corners = rw (c .enum-told3 .given .1) at (c .before .before .judge .ensures) in
     j
 
-corners-with : (c : tie.After-enum-told3) → CornersOf (formatOf 32) (c .before .before .before .before .before .trim .result) (c .before .before .before .before .trim2 .result) (c .before .before .before .grid-step .result) (c .before .before .before .before .before .before .before .before .before .before .before .args .b)
+corners-with : (c : tie.After-enum-told3) → CornersOf (formatOf 32) (c .before .before .before .before .before .trim .result) (c .before .before .before .before .trim2 .result) (c .before .before .before .grid-step .result) (c .before .before .before .before .before .before .before .before .before .args .b)
 corners-with c =
-    let z = c .before .before .before .before .before .before .before .before .before .before .before .args in
+    let z = c .before .before .before .before .before .before .before .before .before .args in
     let g = c .before .before .before .grid-step in
-    corners-of (formatOf 32) (sound 32) (z .x) (z .a) (z .b) (finites (c .before .before .before .before .before .before .before .before .before)) (orders (c .before .before .before .before .before .before .before)) _ _ (trims (c .before .before .before .before)) _ (g .ensures .0) (g .ensures .1) (corners c .2)
+    corners-of (formatOf 32) (sound 32) (z .x) (z .a) (z .b) (admits (c .before .before .before .before .before .before .before)) _ _ (trims (c .before .before .before .before)) _ (g .ensures .0) (g .ensures .1) (corners c .2)
 
 -- an end that is not known is attained
-settled : (c : tie.Joined3) → let p = c .before .before .before .before .before .before .before .before .before .trim .result in let q = c .before .before .before .before .before .before .before .before .trim2 .result in let b = c .before .before .before .before .before .before .before .before .before .before .before .before .before .before .before .args .b in
+settled : (c : tie.Joined2) → let p = c .before .before .before .before .before .before .before .before .before .trim .result in let q = c .before .before .before .before .before .before .before .before .trim2 .result in let b = c .before .before .before .before .before .before .before .before .before .before .before .before .before .args .b in
     (c .before .before .before .low-end .result .known ≡ false → Reached (formatOf 32) (leftX p q) (leftA p q) (b .low)) × (c .before .before .high-end .result .known ≡ false → Reached (formatOf 32) (leftX p q) (leftA p q) (b .high))
-settled c = elim (c .if3 .came) [
+settled c = elim (c .if2 .came) [
   | inl w ↦ w .1 .ensures (not-false _ (w .2 .left))
   | inr w ↦ let k = both _ _ (holds (c .before .both .ensures) (w .left)) in (λ h. absurd (true≢false (sym (k .0) ∙ h)), λ h. absurd (true≢false (sym (k .1) ∙ h)))
 ]
 
-all-finite-requires : tie.Need-all-finite-requires
-all-finite-requires c κs = search needs
+admitted-requires : tie.Need-admitted-requires
+admitted-requires c κs = search needs
 
 returns : tie.Need-returns
 returns c = search needs
 
-in-order-requires : tie.Need-in-order-requires
-in-order-requires c κs = finites c
-
-returns-2 : tie.Need-returns-2
-returns-2 c = search needs
-
 half-gaps-requires : tie.Need-half-gaps-requires
-half-gaps-requires c κs = finites (c .before .before) .2
+half-gaps-requires c κs = admits c .finite .2
 
 trim-requires : tie.Need-trim-requires
-trim-requires c κs = let z = c .before .before .before .before .before .args in trim-takes (formatOf 32) (sound 32) (z .x) (z .a) (z .b) (finites (c .before .before .before)) (orders (c .before)) _ (c .half-gaps .ensures) .0
+trim-requires c κs = let z = c .before .before .before .args in trim-takes (formatOf 32) (sound 32) (z .x) (z .a) (z .b) (admits (c .before)) _ (c .half-gaps .ensures) .0
 
 trim-requires-2 : tie.Need-trim-requires-2
-trim-requires-2 c κs = let z = c .before .before .before .before .before .before .args in trim-takes (formatOf 32) (sound 32) (z .x) (z .a) (z .b) (finites (c .before .before .before .before)) (orders (c .before .before)) _ (c .before .half-gaps .ensures) .1
+trim-requires-2 c κs = let z = c .before .before .before .before .args in trim-takes (formatOf 32) (sound 32) (z .x) (z .a) (z .b) (admits (c .before .before)) _ (c .before .half-gaps .ensures) .1
 
 grid-step-requires : tie.Need-grid-step-requires
 grid-step-requires c κs = (c .before .trim .ensures .summed, c .trim2 .ensures .summed)
 
 judge-requires : tie.Need-judge-requires
-judge-requires c κs = (trims (c .before), finites (c .before .before .before .before .before .before) .2, c .grid-step .ensures .0, c .grid-step .ensures .1)
+judge-requires c κs = (trims (c .before), admits (c .before .before .before .before) .finite .2, c .grid-step .ensures .0, c .grid-step .ensures .1)
 
 enum-told : tie.Need-enum-told
 enum-told c = search needs
@@ -94,43 +84,34 @@ both-requires c κs = search needs
 attained-requires : tie.Need-attained-requires
 attained-requires c κs = let t = corners-with (c .before .before .before .before) in (t .first, t .second, t .finite, t .corners)
 
+returns-2 : tie.Need-returns-2
+returns-2 c = search needs
+
+ends-of-requires : tie.Need-ends-of-requires
+ends-of-requires c κs = let t = corners-with (c .before .before .before .before) in (t .first, t .second, c .before .before .before .low-end .ensures .finite, c .before .before .high-end .ensures .finite)
+
 returns-3 : tie.Need-returns-3
-returns-3 c = search needs
-
-canonical-ends-requires : tie.Need-canonical-ends-requires
-canonical-ends-requires c κs = search needs
-
-canonical-ends-requires-2 : tie.Need-canonical-ends-requires-2
-canonical-ends-requires-2 c κs = search needs
-
-canonical-ends-requires-3 : tie.Need-canonical-ends-requires-3
-canonical-ends-requires-3 c κs = search needs
+returns-3 c =
+    let z = c .before .before .before .before .before .before .before .before .before .args in
+    let j : Judges (formatOf 32) (z .x) (z .a) (z .b) (c .before .before .before .before .before .trim .result) (c .before .before .before .before .trim2 .result) Verdict.None = rw (c .enum-told .given .1) at (c .before .before .judge .ensures) in
+    none-answer (formatOf 32) (sound 32) (z .x) (z .a) (z .b) (admits (c .before .before .before .before .before .before .before)) j
 
 returns-4 : tie.Need-returns-4
-returns-4 c =
-    let z = c .before .before .before .before .before .before .before .before .before .before .before .args in
-    let j : Judges (formatOf 32) (z .x) (z .a) (z .b) (c .before .before .before .before .before .trim .result) (c .before .before .before .before .trim2 .result) Verdict.None = rw (c .enum-told .given .1) at (c .before .before .judge .ensures) in
-    none-answer (formatOf 32) (sound 32) (z .x) (z .a) (z .b) (finites (c .before .before .before .before .before .before .before .before .before)) (orders (c .before .before .before .before .before .before .before)) j
+returns-4 c = search needs
 
 returns-5 : tie.Need-returns-5
-returns-5 c = search needs
-
-returns-6 : tie.Need-returns-6
-returns-6 c =
-    let z = c .before .before .before .before .before .before .before .before .before .before .before .before .before .before .before .before .before .before .args in
-    let l = c .before .before .before .before .before .before .low-end in
-    let h = c .before .before .before .before .before .high-end in
-    ends-answer (formatOf 32) (sound 32) (z .x) (z .a) (z .b) (finites (c .before .before .before .before .before .before .before .before .before .before .before .before .before .before .before .before)) (orders (c .before .before .before .before .before .before .before .before .before .before .before .before .before .before)) _ _ (trims (c .before .before .before .before .before .before .before .before .before .before .before)) (corners (c .before .before .before .before .before .before .before)) (l .result) (h .result) (l .ensures) (h .ensures) (settled (c .before .before .before))
-    _ _ _ (c .before .before .canonical-ends .ensures) (c .before .canonical-ends2 .ensures) (c .canonical-ends3 .ensures)
+returns-5 c =
+    let z = c .before .before .before .before .before .before .before .before .before .before .before .before .before .before .args in
+    let l = c .before .before .before .before .low-end in
+    let h = c .before .before .before .high-end in
+    rw (c .ends-of .ensures) (ends-answer (formatOf 32) (sound 32) (z .x) (z .a) (z .b) (admits (c .before .before .before .before .before .before .before .before .before .before .before .before)) _ _ (trims (c .before .before .before .before .before .before .before .before .before)) (corners (c .before .before .before .before .before)) (l .result) (h .result) (l .ensures) (h .ensures) (settled (c .before)))
 
 pub shortcut32-spec : {M : Type 1} → statement M
 shortcut32-spec =
     tie.close
     (tie.spec
-    all-finite-requires
+    admitted-requires
     returns
-    in-order-requires
-    returns-2
     half-gaps-requires
     trim-requires
     trim-requires-2
@@ -143,10 +124,8 @@ shortcut32-spec =
     high-end-requires
     both-requires
     attained-requires
+    returns-2
+    ends-of-requires
     returns-3
-    canonical-ends-requires
-    canonical-ends-requires-2
-    canonical-ends-requires-3
     returns-4
-    returns-5
-    returns-6)
+    returns-5)
