@@ -1,8 +1,9 @@
-//! Nanoseconds for the library's forward sum and narrowing and for a pass over a sheet, beside unverified baselines in the
-//! same run; for a pass also beside its narrowings by the library. Then how the cost grows: of a narrowing with the length of
-//! its intervals, of a run with its sums and passes.
+//! Nanoseconds for the library's forward sum, for its narrowing in integers and by the machine's floats and for a pass over a
+//! sheet, beside unverified baselines in the same run; for a pass also beside its narrowings by the library. Then the slowest
+//! narrowings and the longest run that were found, and how the cost grows: of a narrowing with the length of its intervals, of a
+//! run with its sums and passes.
 //!
-//! Usage: bench PROGRAM, the program `narrow`. Both sides get the same input and must give the same answers. Each figure is the
+//! Usage: bench PROGRAM, the program `narrow`. All sides get the same input and must give the same answers. Each figure is the
 //! best of many rounds in which the sides take turns; the result buffers are not cleared between calls.
 
 #[path = "../tests/common/cases.rs"]
@@ -15,7 +16,6 @@ mod floats;
 mod narrowing;
 #[path = "../tests/common/sheet.rs"]
 mod sheet;
-#[allow(dead_code)]
 #[path = "../bindings/tazsmibor.rs"]
 mod tazsmibor;
 #[allow(dead_code)]
@@ -24,6 +24,7 @@ mod words;
 
 mod baseline;
 mod passes;
+mod slowest;
 mod sums;
 
 use floats::{Binary32, Binary64, Range, Width};
@@ -100,13 +101,11 @@ fn answer(call: Call, width: u64, ends: [u64; 6]) -> (u64, [u8; 48]) {
     (call(width, ends, &mut result), result)
 }
 
-/// A line with the library's nanoseconds, those of what it is held to, and their ratio.
-pub fn report_beside(what: &str, library: f64, other: &str, figure: f64) {
-    println!("{what}: library {library:.1} ns, {other} {figure:.1} ns, ratio {:.2}", library / figure);
-}
-
-pub fn report(what: &str, library: f64, baseline: f64) {
-    report_beside(what, library, "baseline", baseline);
+/// A line with the nanoseconds of each side, and in brackets their ratio to the last.
+pub fn report(what: &str, sides: &[(&str, f64)]) {
+    let last = sides.last().expect("a side").1;
+    let side = |(name, figure): &(&str, f64)| format!("{name} {figure:.1} ns ({:.2})", figure / last);
+    println!("{what}: {}", sides.iter().map(side).collect::<Vec<_>>().join(", "));
 }
 
 fn patterns<W: Width>(cases: usize, make: impl Fn(&mut Words) -> [Range; 3]) -> Vec<[u64; 6]> {
@@ -117,15 +116,21 @@ fn patterns<W: Width>(cases: usize, make: impl Fn(&mut Words) -> [Range; 3]) -> 
 fn narrowing<W: Width>(mix: &str, amount: Amount, make: impl Fn(&mut Words) -> [Range; 3]) {
     let cases = patterns::<W>(amount.cases, make);
     for ends in &cases {
-        assert_eq!(
-            answer(tazsmibor::entry, W::BITS, *ends),
-            answer(baseline::call, W::BITS, *ends),
-            "{mix}: the baseline answers otherwise"
-        );
+        let expected = answer(baseline::call, W::BITS, *ends);
+        for entry in [tazsmibor::entry, tazsmibor::entry_fast] {
+            assert_eq!(answer(entry, W::BITS, *ends), expected, "{mix}: the baseline answers otherwise");
+        }
     }
-    let [library, baseline] =
-        best(amount.rounds, [&mut || round(tazsmibor::entry, W::BITS, &cases), &mut || round(baseline::call, W::BITS, &cases)]);
-    report(&format!("narrowing, width {}, {mix}, {} cases", W::BITS, amount.cases), library, baseline);
+    let [exact, fast, baseline] = best(
+        amount.rounds,
+        [
+            &mut || round(tazsmibor::entry, W::BITS, &cases),
+            &mut || round(tazsmibor::entry_fast, W::BITS, &cases),
+            &mut || round(baseline::call, W::BITS, &cases),
+        ],
+    );
+    let what = format!("narrowing, width {}, {mix}, {} cases", W::BITS, amount.cases);
+    report(&what, &[("in integers", exact), ("fast", fast), ("galloping search", baseline)]);
 }
 
 /// The three mixes.
@@ -142,7 +147,18 @@ fn lengths<W: Width>() {
     }
 }
 
+/// The processor's name, as Linux has it.
+fn processor() -> String {
+    let text = std::fs::read_to_string("/proc/cpuinfo").unwrap_or_default();
+    let fact = |name: &str| {
+        let line = text.lines().find(|line| line.starts_with(name));
+        line.and_then(|line| line.split(": ").nth(1)).unwrap_or("unknown").to_owned()
+    };
+    format!("{}, family {}, model {}", fact("model name"), fact("cpu family"), fact("model\t"))
+}
+
 fn main() {
+    println!("processor: {}", processor());
     sums::sums::<Binary32>();
     sums::sums::<Binary64>();
     narrowings::<Binary32>(FEW);
@@ -151,6 +167,9 @@ fn main() {
     narrowings::<Binary64>(MANY);
     let program = std::env::args().nth(1).expect("usage: bench PROGRAM");
     passes::pass(&program);
+    slowest::narrowings::<Binary32>();
+    slowest::narrowings::<Binary64>();
+    slowest::run(&program);
     lengths::<Binary64>();
     passes::growth(&program);
 }

@@ -1,10 +1,10 @@
 //! A pass over a sheet of 64 cells and 128 sums by the program `narrow`, beside the reference in this process and beside its
-//! 128 narrowings through the library's C entry.
+//! 128 narrowings through the library's fast C entry, whose code the program has.
 //!
 //! A part of the sheet counts upward: each pass moves ends by a few floats, so a run makes all the passes that its limit
 //! allows. The time of a run of one pass is taken off, and with it the start of the program and the reading of the text.
 
-use crate::{best, report, report_beside, round, sheet, tazsmibor};
+use crate::{best, report, round, sheet, tazsmibor};
 use std::io::Write;
 use std::process::{Command, Stdio};
 use std::time::Instant;
@@ -12,9 +12,9 @@ use std::time::Instant;
 const PASSES: usize = 1_000;
 const ROUNDS: usize = 100;
 
-struct Sheet {
-    cells: Vec<[u64; 2]>,
-    sums: Vec<[usize; 3]>,
+pub struct Sheet {
+    pub cells: Vec<[u64; 2]>,
+    pub sums: Vec<[usize; 3]>,
 }
 
 /// Four groups of 16 cells: a ring of 14 from 0 on, with the smallest float and zero; wide ones, from minus a power of two to
@@ -51,7 +51,7 @@ impl Sheet {
         Sheet { cells: cells(), sums: (0..32).flat_map(sums_of_round).take(sums).collect() }
     }
 
-    fn text(&self, limit: usize) -> String {
+    pub fn text(&self, limit: usize) -> String {
         let cell = |[low, high]: &[u64; 2]| format!("cell\t{low:016X}\t{high:016X}\n");
         let sum = |[x, a, b]: &[usize; 3]| format!("sum\t{x}\t{a}\t{b}\n");
         let cells: String = self.cells.iter().map(cell).collect();
@@ -72,7 +72,7 @@ impl Sheet {
             let [x, a, b] = sum.map(|i| self.cells[i]);
             let ends = [x[0], x[1], a[0], a[1], b[0], b[1]];
             let mut result = [0; 48];
-            assert_eq!(tazsmibor::entry(64, ends, &mut result), 0, "bench: a sum of the sheet has no triple");
+            assert_eq!(tazsmibor::entry_fast(64, ends, &mut result), 0, "bench: a sum of the sheet has no triple");
             let end = |i: usize| u64::from_le_bytes(result[8 * i..8 * i + 8].try_into().unwrap());
             for (j, i) in sum.iter().enumerate() {
                 self.cells[*i] = [end(2 * j), end(2 * j + 1)];
@@ -83,21 +83,21 @@ impl Sheet {
     }
 }
 
-fn run(program: &str, text: &str) -> String {
+pub fn run(program: &str, text: &str) -> String {
     let mut child = Command::new(program).stdin(Stdio::piped()).stdout(Stdio::piped()).spawn().expect("bench: no program");
     child.stdin.take().unwrap().write_all(text.as_bytes()).expect("bench: no input");
     String::from_utf8(child.wait_with_output().expect("bench: no output").stdout).expect("bench: not text")
 }
 
 /// Nanoseconds for a text, with its listing.
-fn time(listing: &dyn Fn(&str) -> String, text: &str) -> (f64, String) {
+pub fn time(listing: &dyn Fn(&str) -> String, text: &str) -> (f64, String) {
     let start = Instant::now();
     let printed = listing(text);
     (start.elapsed().as_nanos() as f64, printed)
 }
 
 /// The listing of a run that makes all the passes of its limit.
-fn stopped(listing: &dyn Fn(&str) -> String, sheet: &Sheet, limit: usize) -> String {
+pub fn stopped(listing: &dyn Fn(&str) -> String, sheet: &Sheet, limit: usize) -> String {
     let printed = listing(&sheet.text(limit));
     assert!(printed.starts_with(&format!("stopped\t{limit}\n")), "bench: the sheet settles early: {printed}");
     printed
@@ -123,12 +123,13 @@ pub fn pass(program: &str) {
             &mut || time(&library, &all).0,
             &mut || time(&reference, &one).0,
             &mut || time(&reference, &all).0,
-            &mut || round(tazsmibor::entry, 64, &narrowings),
+            &mut || round(tazsmibor::entry_fast, 64, &narrowings),
         ],
     );
     let per_pass = |short: f64, long: f64| (long - short) / PASSES as f64;
-    report(what, per_pass(short, long), per_pass(short_baseline, long_baseline));
-    report_beside(what, per_pass(short, long), "its 128 narrowings", 128.0 * narrowing);
+    let library = per_pass(short, long);
+    report(what, &[("library", library), ("reference", per_pass(short_baseline, long_baseline))]);
+    report(what, &[("library", library), ("its 128 narrowings", 128.0 * narrowing)]);
 }
 
 /// A pass by its sums, and by how many passes the run makes.

@@ -99,5 +99,5 @@ pub fn sums<W: Width>() {
     }
     let [library, baseline] =
         best(ROUNDS, [&mut || round(library_add, W::BITS, &pairs), &mut || round(software_add, W::BITS, &pairs)]);
-    report(&format!("sum, width {}", W::BITS), library, baseline);
+    report(&format!("sum, width {}", W::BITS), &[("library", library), ("software addition", baseline)]);
 }

@@ -1,13 +1,31 @@
-//! The narrowing of one sum x + a = b for Rust programs, over the static library `libarith.a` and its C entry.
+//! The narrowing of one sum x + a = b for Rust programs on x86-64 Linux, over the C entries of Tazsmibor.
 //!
-//! `narrow` takes ranges of `f32` or `f64`, `entry` patterns and a buffer as C does. Both are safe: every call gets an answer.
-//! Build the library with `rt staticlib arith`, add this file as a module (edition 2021 or later) and link with
-//! `-L target/staticlib -l static=arith`.
+//! `narrow` takes ranges of `f32` or `f64`, `entry` patterns and a buffer as C does. Both are safe: every call gets an answer, in
+//! every floating-point environment. `narrow_fast` and `entry_fast` answer the same sooner, in the default environment, which
+//! Rust code keeps to; include/tazsmibor_fast.h says what is at stake where a library in C has left it.
+//!
+//! Add this file as a module (rustc 1.82 or later, edition 2021 or later, `core` alone), build the libraries with
+//! `rt staticlib arith` and `rt staticlib machine`, and link with `-L target/staticlib -l static=arith`, and with
+//! `-l static=machine` too where a fast function is called.
 
-use std::ops::RangeInclusive;
+#![allow(dead_code)] // a program may use a part
+
+use core::ops::RangeInclusive;
 
 unsafe extern "C" {
     fn tazsmibor_narrow(
+        width: u64,
+        x_low: u64,
+        x_high: u64,
+        a_low: u64,
+        a_high: u64,
+        b_low: u64,
+        b_high: u64,
+        result: *mut u8,
+        length: usize,
+    ) -> u64;
+
+    fn tazsmibor_narrow_fast(
         width: u64,
         x_low: u64,
         x_high: u64,
@@ -68,14 +86,37 @@ impl Float for f64 {
 
 /// The C entry on any numbers and any buffer, as include/tazsmibor.h has it: 0 with the six ends in the first 48 bytes, or the
 /// number of a refusal and the buffer as it was.
+#[inline]
 pub fn entry(width: u64, ends: [u64; 6], result: &mut [u8]) -> u64 {
     let [xl, xh, al, ah, bl, bh] = ends;
     // The pointer and the length are a slice's, so the bytes are there, are this caller's alone, and the pointer is not null.
     unsafe { tazsmibor_narrow(width, xl, xh, al, ah, bl, bh, result.as_mut_ptr(), result.len()) }
 }
 
+/// The same by the machine's floats, as include/tazsmibor_fast.h has it.
+#[inline]
+pub fn entry_fast(width: u64, ends: [u64; 6], result: &mut [u8]) -> u64 {
+    let [xl, xh, al, ah, bl, bh] = ends;
+    // As in `entry`.
+    unsafe { tazsmibor_narrow_fast(width, xl, xh, al, ah, bl, bh, result.as_mut_ptr(), result.len()) }
+}
+
 /// Cuts three ranges down: each to the least and the greatest of its values that stand in some x + a = b.
 pub fn narrow<F: Float>(x: RangeInclusive<F>, a: RangeInclusive<F>, b: RangeInclusive<F>) -> Narrowing<F> {
+    narrow_by(entry, x, a, b)
+}
+
+/// The same by the machine's floats.
+pub fn narrow_fast<F: Float>(x: RangeInclusive<F>, a: RangeInclusive<F>, b: RangeInclusive<F>) -> Narrowing<F> {
+    narrow_by(entry_fast, x, a, b)
+}
+
+fn narrow_by<F: Float>(
+    entry: fn(u64, [u64; 6], &mut [u8]) -> u64,
+    x: RangeInclusive<F>,
+    a: RangeInclusive<F>,
+    b: RangeInclusive<F>,
+) -> Narrowing<F> {
     let mut result = [0u8; 48];
     let ends = [x.start(), x.end(), a.start(), a.end(), b.start(), b.end()].map(|end| end.pattern());
     let answer = entry(F::WIDTH, ends, &mut result);

@@ -1,4 +1,4 @@
-//! The Rust wrapper in bindings/, as a Rust program uses it: each case of its enum at both widths, and the entry over a buffer.
+//! The Rust wrapper in bindings/, as a Rust program uses it: each case of its enum at both widths, and the entries over a buffer.
 //! Status 1 at any difference.
 
 #[path = "../../bindings/tazsmibor.rs"]
@@ -6,7 +6,7 @@ mod tazsmibor;
 
 use std::fmt::Debug;
 use std::ops::RangeInclusive;
-use tazsmibor::{Float, Narrowing, entry, narrow};
+use tazsmibor::{Float, Narrowing, entry, entry_fast, narrow, narrow_fast};
 
 type Case<F> = (&'static str, [RangeInclusive<F>; 3], Narrowing<F>);
 
@@ -26,9 +26,11 @@ impl Tally {
         }
     }
 
-    fn narrowings<F: Float + Debug + PartialEq>(&mut self, cases: Vec<Case<F>>) {
+    fn narrowings<F: Float + Clone + Debug + PartialEq>(&mut self, cases: Vec<Case<F>>) {
         for (what, [x, a, b], expected) in cases {
-            self.compare(&format!("width {}, {what}", F::WIDTH), narrow(x, a, b), expected);
+            let what = format!("width {}, {what}", F::WIDTH);
+            self.compare(&what, narrow(x.clone(), a.clone(), b.clone()), expected.clone());
+            self.compare(&format!("{what}, fast"), narrow_fast(x, a, b), expected);
         }
     }
 }
@@ -57,15 +59,13 @@ fn main() {
     let mut tally = Tally::default();
     tally.narrowings(cases!(f32));
     tally.narrowings(cases!(f64));
-    // The README's call.
-    let readme = narrow(-1e6..=1e6, 0.25..=0.5, 1.0..=1.0);
-    let (x, a) = (0.49999999999999994..=0.7500000000000001, 0.25..=0.5);
-    tally.compare("the README's call", readme, Narrowing::Ends { x, a, b: 1.0..=1.0 });
-    let mut buffer = [0xA5; 50];
-    tally.compare("the entry at width 0", entry(0, [0; 6], &mut buffer), 1);
-    tally.compare("and its buffer", buffer, [0xA5; 50]);
-    tally.compare("the entry on zeros", entry(64, [0; 6], &mut buffer), 0);
-    tally.compare("and its buffer", buffer[47..] == [0, 0xA5, 0xA5], true);
+    for entry in [entry, entry_fast] {
+        let mut buffer = [0xA5; 50];
+        tally.compare("the entry at width 0", entry(0, [0; 6], &mut buffer), 1);
+        tally.compare("and its buffer", buffer, [0xA5; 50]);
+        tally.compare("the entry on zeros", entry(64, [0; 6], &mut buffer), 0);
+        tally.compare("and its buffer", buffer[47..] == [0, 0xA5, 0xA5], true);
+    }
     println!("bindings: {} calls, {} not as expected", tally.calls, tally.wrong);
     std::process::exit((tally.wrong != 0).into());
 }

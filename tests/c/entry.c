@@ -1,32 +1,49 @@
-/* Calls the C entry as the stage controller does: each answer with the buffer it leaves. Status 1 at any difference. */
+/* Calls the C entries as the stage controller does: each answer with the buffer it leaves. Status 1 at any difference. */
 #include <inttypes.h>
 #include <stdio.h>
 #include <string.h>
 
-#include "tazsmibor.h"
+#include "tazsmibor_fast.h"
+
+/* the requirement's numbers */
+_Static_assert(TAZSMIBOR_NARROWED == 0 && TAZSMIBOR_UNKNOWN_WIDTH == 1 && TAZSMIBOR_NOT_FINITE == 2, "0, 1, 2");
+_Static_assert(TAZSMIBOR_OUT_OF_ORDER == 3 && TAZSMIBOR_NO_SOLUTION == 11 && TAZSMIBOR_NO_ROOM == 13, "3, 11, 13");
 
 enum { ROOM = 64, FILL = 0xA5 };
+
+static const struct {
+    const char *name;
+    uint64_t (*call)(uint64_t, uint64_t, uint64_t, uint64_t, uint64_t, uint64_t, uint64_t, uint8_t *, size_t);
+} entries[] = {
+    { "tazsmibor_narrow", tazsmibor_narrow },
+    { "tazsmibor_narrow_fast", tazsmibor_narrow_fast },
+    { "tazsmibor_narrow_guarded", tazsmibor_narrow_guarded },
+};
+enum { ENTRIES = sizeof entries / sizeof entries[0] };
 
 static int failures;
 static int calls;
 
-/* One call on a buffer of `length` bytes filled with FILL. At answer 0 the six ends are expected, else the buffer as it was. */
+/* One call of each entry on a buffer of `length` bytes filled with FILL. At answer 0 the six ends are expected, else the buffer
+ * as it was. */
 static void expect(const char *what, uint64_t width, const uint64_t in[6], size_t length, uint64_t answer, const uint64_t ends[6])
 {
     uint8_t got[ROOM], want[ROOM];
-    memset(got, FILL, sizeof got);
     memset(want, FILL, sizeof want);
     for (int i = 0; answer == 0 && i < 48; i++)
         want[i] = (uint8_t)(ends[i / 8] >> (8 * (i % 8)));
-    uint64_t r = tazsmibor_narrow(width, in[0], in[1], in[2], in[3], in[4], in[5], got, length);
-    calls++;
-    if (r == answer && memcmp(got, want, sizeof got) == 0)
-        return;
-    failures++;
-    printf("%s: answer %" PRIu64 ", expected %" PRIu64 "; buffer", what, r, answer);
-    for (int i = 0; i < ROOM; i++)
-        printf(" %02X", got[i]);
-    printf("\n");
+    for (int e = 0; e < ENTRIES; e++) {
+        memset(got, FILL, sizeof got);
+        uint64_t r = entries[e].call(width, in[0], in[1], in[2], in[3], in[4], in[5], got, length);
+        calls++;
+        if (r == answer && memcmp(got, want, sizeof got) == 0)
+            continue;
+        failures++;
+        printf("%s, %s: answer %" PRIu64 ", expected %" PRIu64 "; buffer", entries[e].name, what, r, answer);
+        for (int i = 0; i < ROOM; i++)
+            printf(" %02X", got[i]);
+        printf("\n");
+    }
 }
 
 #define LOWEST 0xFFEFFFFFFFFFFFFF

@@ -1,11 +1,10 @@
-//! Random garbage for every parameter of the C entry: each answer is the number of the first condition that holds, with the
+//! Random garbage for every parameter of the C entries: each answer is the number of the first condition that holds, with the
 //! narrowing in the first 48 bytes at 0 and the buffer as it was otherwise.
 
 use crate::ends;
 use crate::floats::{Binary32, Binary64, Width};
 use crate::library;
 use crate::pieces;
-use crate::tazsmibor::entry;
 use crate::words::Words;
 
 const WIDTHS: [u64; 11] = [32, 64, 32, 64, 32, 64, 0, 16, 33, 128, u64::MAX];
@@ -69,7 +68,7 @@ pub fn run(calls: usize) -> usize {
         }
         let before: Vec<u8> = (0..words.pick(&[48, 49, 64, 47, 0, 7, 100])).map(|_| words.next() as u8).collect();
         let mut after = before.clone();
-        let answer = entry(width, ends, &mut after);
+        let answer = library::entry(width, ends, &mut after);
         if let Some(what) = fault(width, ends, &before, &after, answer) {
             eprintln!("differential: {what}: width {width}, {ends:X?}, {} bytes, answer {answer}", before.len());
             std::process::exit(1);

@@ -1,8 +1,20 @@
-//! The C entry's answers as ranges by place.
+//! The C entries, which answer alike, and their answers as ranges by place.
 
 use crate::ends;
 use crate::floats::{Narrowed, Range, Width};
-use crate::tazsmibor::entry;
+use crate::tazsmibor;
+
+/// Both entries on the same bytes; the run ends where they differ.
+pub fn entry(width: u64, ends: [u64; 6], result: &mut [u8]) -> u64 {
+    let mut bytes = result.to_vec();
+    let answer = tazsmibor::entry(width, ends, result);
+    let fast = tazsmibor::entry_fast(width, ends, &mut bytes);
+    if (answer, &*result) != (fast, &bytes) {
+        eprintln!("differential: width {width}, {ends:X?}: the fast entry answers {fast} {bytes:02X?}, the other {answer} {result:02X?}");
+        std::process::exit(1);
+    }
+    answer
+}
 
 /// The narrowed ranges in the first 48 bytes: six ends, 8 bytes each, low byte first. An end that is not finite, out of order or
 /// in another than its one pattern is a failure.

@@ -1,4 +1,4 @@
-//! The static library's narrowing at both widths: short ranges against brute force over the hardware's addition, wide ones and
+//! The narrowing of both C entries at both widths: short ranges against brute force over the hardware's addition, wide ones and
 //! random garbage for every parameter against a rule that decides by pieces. Prints how many cases of each kind were compared;
 //! any difference ends it with status 1.
 
@@ -10,7 +10,6 @@ mod ends;
 mod floats;
 #[path = "../common/narrowing.rs"]
 mod narrowing;
-#[allow(dead_code)]
 #[path = "../../bindings/tazsmibor.rs"]
 mod tazsmibor;
 #[path = "../common/words.rs"]

@@ -1,49 +1,59 @@
-//! The examples of the documents, with the listings they state.
+//! The examples of docs/FORMAT.md: sheets and refused texts with the listings it states, and numbers with their patterns.
 
-use crate::texts::{Case, printing};
+use crate::texts::Case;
 
-const DOCUMENTS: [(&str, &str); 2] =
-    [("README.md", include_str!("../../README.md")), ("docs/FORMAT.md", include_str!("../../docs/FORMAT.md"))];
+const NAME: &str = "docs/FORMAT.md";
+const DOCUMENT: &str = include_str!("../../docs/FORMAT.md");
 
-/// The indented blocks of a document, each line's fields parted by one space.
-fn blocks(document: &str) -> Vec<String> {
-    let mut blocks = vec![String::new()];
-    for line in document.lines() {
-        match line.strip_prefix("    ") {
-            Some(row) => *blocks.last_mut().unwrap() += &(row.split_whitespace().collect::<Vec<_>>().join(" ") + "\n"),
-            None => blocks.push(String::new()),
-        }
-    }
-    blocks.retain(|block| !block.is_empty());
-    blocks
+fn printing(text: String, printed: String) -> Case {
+    Case { name: NAME.to_string(), text: text.into_bytes(), printed: Some(printed), pause: 0 }
 }
 
-/// Each block that is a sheet, with the block after it as its listing.
-fn sheets(name: &str, document: &str) -> Vec<Case> {
-    let blocks = blocks(document);
-    let pairs = blocks.iter().zip(&blocks[1..]).filter(|(text, _)| text.starts_with("sheet "));
-    pairs.map(|(text, listing)| printing(name, text, listing)).collect()
+/// Each block that is a sheet, with the block after it as its listing; both as they stand.
+fn sheets() -> Vec<Case> {
+    let blocks: Vec<&str> = DOCUMENT.split("```\n").skip(1).step_by(2).collect();
+    let pairs = blocks.iter().zip(&blocks[1..]).filter(|(text, _)| text.starts_with("sheet\t"));
+    pairs.map(|(text, listing)| printing(text.to_string(), listing.to_string())).collect()
 }
 
 /// A table's text: quoted parts, each as often as the words before it say.
 fn table_text(cell: &str) -> String {
     let parts: Vec<&str> = cell.split('`').collect();
     let times = |words: &str| words.split_whitespace().find_map(|w| w.replace(',', "").parse().ok()).unwrap_or(1);
-    let quoted = |part: &str| part.replace('→', " ").replace('⏎', "\n");
+    let quoted = |part: &str| part.replace('→', "\t").replace('⏎', "\n").replace('␍', "\r").replace('◌', "\u{FEFF}");
     parts.chunks_exact(2).map(|pair| quoted(pair[1]).repeat(times(pair[0]))).collect()
 }
 
-/// Each row of a table whose last column is a reply: the column before it is the text.
-fn refusals(name: &str, document: &str) -> Vec<Case> {
-    let rows = document.lines().map(|line| line.split('|').collect::<Vec<_>>());
-    let replies = rows.filter(|row| row.len() == 6 && row[4].starts_with(" `refused "));
-    replies.map(|row| printing(name, &table_text(row[3]), &(row[4].replace('`', "").trim().to_string() + "\n"))).collect()
+/// The columns of each row of a table.
+fn rows() -> impl Iterator<Item = Vec<&'static str>> {
+    DOCUMENT.lines().map(|line| line.split('|').collect())
 }
 
-/// All of them: at least the sheet of the README, and four sheets and seventeen refusals of docs/FORMAT.md.
+/// Each row whose last column is a reply: the column before it is the text.
+fn refusals() -> Vec<Case> {
+    let replies = rows().filter(|row| row.len() == 6 && row[4].starts_with(" `refused "));
+    let reply = |row: &str| row.replace('`', "").trim().replace(' ', "\t") + "\n";
+    replies.map(|row| printing(table_text(row[3]), reply(row[4]))).collect()
+}
+
+/// The rows that give a number's pattern at both widths: how many there are, and how many are wrong.
+pub fn patterns() -> (usize, usize) {
+    let quoted = |cell: &str| cell.trim().strip_prefix('`')?.strip_suffix('`').map(str::to_string);
+    let (mut count, mut wrong) = (0, 0);
+    for row in rows().filter(|row| row.len() == 5) {
+        let [Some(number), Some(narrow), Some(wide)] = [row[1], row[2], row[3]].map(quoted) else { continue };
+        let (Ok(f), Ok(d)) = (number.parse::<f32>(), number.parse::<f64>()) else { continue };
+        count += 1;
+        wrong += (format!("{:08X}", f.to_bits()) != narrow || format!("{:016X}", d.to_bits()) != wide) as usize;
+    }
+    assert!(count >= 7, "listing: only {count} patterns in {NAME}");
+    (count, wrong)
+}
+
+/// All of them: at least four sheets and twenty-one refusals.
 pub fn examples() -> Vec<Case> {
-    let cases: Vec<Case> =
-        DOCUMENTS.iter().flat_map(|(name, text)| [sheets(name, text), refusals(name, text)].concat()).collect();
-    assert!(cases.len() >= 22, "listing: only {} examples in the documents", cases.len());
-    cases
+    let (sheets, refusals) = (sheets(), refusals());
+    assert!(sheets.len() >= 4, "listing: only {} sheets in {NAME}", sheets.len());
+    assert!(refusals.len() >= 21, "listing: only {} refusals in {NAME}", refusals.len());
+    [sheets, refusals].concat()
 }

@@ -77,8 +77,10 @@ fn main() {
         + compare(&program, "damaged", texts::damaged())
         + compare(&program, "random sheets", texts::random(1500))
         + compare(&program, "random bytes", texts::garbage(500));
-    if differences != 0 {
-        eprintln!("listing: {differences} differed");
+    let (patterns, wrong) = documented::patterns();
+    println!("patterns of the documents: {patterns} numbers, {wrong} wrong");
+    if differences + wrong != 0 {
+        eprintln!("listing: {} differed", differences + wrong);
         std::process::exit(1);
     }
 }

@@ -25,7 +25,7 @@ fn case(name: &str, text: &str) -> Case {
     bytes(name, tabs(text))
 }
 
-pub fn printing(name: &str, text: &str, printed: &str) -> Case {
+fn printing(name: &str, text: &str, printed: &str) -> Case {
     Case { printed: Some(printed.replace(' ', "\t")), ..case(name, text) }
 }
 

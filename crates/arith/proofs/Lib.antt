@@ -15,12 +15,6 @@ pub mod Bounds
 pub mod Narrowings
 pub mod Callers
 pub mod Floating
-pub mod Machines
-pub mod HalfUlps
-pub mod Gridding
-pub mod Guesses
-pub mod KnownEnds
-pub mod Shortcutting
 pub mod Placing
 pub mod Valid
 pub mod Replies

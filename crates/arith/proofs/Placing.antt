@@ -1,4 +1,4 @@
--- Bytes placed into a buffer: one after the other, one run after the other, and the answer's 48. Assumes nothing.
+-- Bytes placed into a buffer: one after the other, one run after the other, and the answer's 48; what an entry answers. Assumes nothing.
 use mathlib.Core.Path.{_≡_, refl, sym, ap, ap₂, _∙_}
 use mathlib.Core.Bool.{Bool, cond}
 use mathlib.Core.List.{List, [], _∷_, _++_, append-assoc}
@@ -8,8 +8,10 @@ use lib.ListN.{length, take, drop, set, length-append, take-append-drop}
 use lib.Seq.{length-take-le, take-suc-set, drop-set-lt, take-at, drop-append-add, drop-drop}
 use borrow.Author.Tests.{lt-ltb, le-ltb}
 use Rattle.arith.specs.declared.interval.Interval.{Interval}
+use Rattle.arith.specs.declared.narrow.Narrowed.{Narrowed}
 use Rattle.arith.specs.declared.narrow.Narrowed.the-variants.{Ends}
-use Rattle.arith.specs.Exports.{littleEndian, endBytes, sixEnds, placed, exportNumber, exportBuffer}
+use Rattle.arith.specs.Narrows.{narrowOf}
+use Rattle.arith.specs.Exports.{narrowSix, littleEndian, endBytes, sixEnds, placed, exportNumber, exportBuffer}
 
 length-little : (n w : ℕ) → length (littleEndian n w) ≡ n
 unfolding littleEndian
@@ -106,3 +108,11 @@ module _ (x a b : Interval) (s : List ℕ) where
   pub room-buffer : 48 ≤ length s → placed 0 (sixEnds x a b) s ≡ exportBuffer s (Ends x a b)
   unfolding placed
   room-buffer h = ap (λ (n : ℕ). sixEnds x a b ++ drop (0 + n) s) (length-six x a b) ∙ sym (ap (λ (t : Bool). cond t s (sixEnds x a b ++ drop 48 s)) (le-ltb _ _ h))
+
+-- ---- an entry
+-- x, a and b made of plain numbers, narrowed to n, and n told by a number and put into the bytes
+pub exported : (width room : ℕ) (s : List ℕ) {xl xh al ah bl bh r : ℕ} {x a b : Interval} {n : Narrowed} {s' : List ℕ} → x ≡ record { low = xl; high = xh } → a ≡ record { low = al; high = ah } → b ≡ record { low = bl; high = bh } → n ≡ narrowOf width x a b
+    → (r ≡ exportNumber room n) × (s' ≡ exportBuffer s n) → (r ≡ exportNumber room (narrowSix width xl xh al ah bl bh)) × (s' ≡ exportBuffer s (narrowSix width xl xh al ah bl bh))
+exported width room s {b = b} p q t e h =
+    let m = e ∙ ap₂ (λ (y z : Interval). narrowOf width y z b) p q ∙ ap (narrowOf width _ _) t in
+    (h .0 ∙ ap (exportNumber room) m, h .1 ∙ ap (exportBuffer s) m)

@@ -1,13 +1,11 @@
 -- The answer by width: refusal 1, then the answer in the width's format, and that the one given tells the reply due. Assumes nothing.
 use mathlib.Core.Path.{_≡_, sym, ap, _∙_, subst}
-use mathlib.Core.Bool.{Bool, true, false, not, _||_, or-false}
+use mathlib.Core.Bool.{Bool, true, false, not}
 use Prim.Native.Nat.{ℕ}
-use lib.Dec.{eqb}
-use borrow.Author.Tests.{eqb-true, ne-eqb}
 use Rattle.arith.specs.declared.format.Format.{Format}
 use Rattle.arith.specs.declared.refusal.Refusal.{Refusal}
 use Rattle.arith.specs.Refusals.{refusal, orRefuse}
-use Rattle.arith.specs.Formats.{isKnown, formatOf, Sound}
+use Rattle.arith.specs.Formats.{formatOf, Sound}
 use Rattle.arith.specs.Answers.{Reply}
 use Rattle.arith.proofs.Refusing.{refused, passed, holds, fails}
 use Rattle.arith.proofs.Formats.{sound}
@@ -16,10 +14,6 @@ use Rattle.arith.proofs.Replies.{told-too}
 -- the format that a call gave
 pub sound-of : {F : Format} (width : ℕ) → F ≡ formatOf width → Sound F
 sound-of width e = subst Sound (sym e) (sound width)
-
--- a known width that is not 64 is 32
-pub other-width : (width : ℕ) → isKnown width ≡ true → (width ≡ 64 → ⊥) → width ≡ 32
-other-width width k n = eqb-true width 32 (sym (or-false (eqb width 32)) ∙ sym (ap (λ (b : Bool). eqb width 32 || b) (ne-eqb width 64 n)) ∙ k)
 
 -- k, whether the width is known, as a call gave it
 module _ {A B : Type 0} (w : Refusal → A) (told : A → Reply B) {k known : Bool} (e : k ≡ known) {due : Reply B} where

@@ -6,8 +6,6 @@ pub mod Intervals
 pub mod Thresholds
 pub mod Searches
 pub mod Narrows
-pub mod Machines
-pub mod Shortcuts
 pub mod Floating
 pub mod Answers
 pub mod Replies

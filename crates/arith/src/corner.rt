@@ -7,11 +7,11 @@ use crate::clamp::granularity;
 use crate::clamp::lower;
 use crate::clamp::raise;
 use crate::format::Format;
-use crate::hardware::add_ordinals;
 use crate::operand::Found;
 use crate::operand::greatest_operand;
 use crate::operand::least_operand;
 use crate::range::Range;
+use crate::sum::sum_of;
 
 // The ranges of both operands.
 pub(crate) struct Operands {
@@ -33,7 +33,7 @@ fn climb(format: Format, x: Range, a: Range, b: Range) -> Corner
     let Found::At(p) = least_operand(format, a.high, b.low, x) else {
         return Corner::Absent;
     };
-    let s = add_ordinals(format, p, a.high);
+    let s = sum_of(format, p, a.high);
     if s <= b.high {
         return Corner::At {
             x: p,
@@ -47,7 +47,7 @@ fn climb(format: Format, x: Range, a: Range, b: Range) -> Corner
     Corner::At {
         x: p,
         a: q,
-        b: add_ordinals(format, p, q),
+        b: sum_of(format, p, q),
     }
 }
 
@@ -59,7 +59,7 @@ fn descend(format: Format, x: Range, a: Range, b: Range) -> Corner
     let Found::At(q) = greatest_operand(format, x.low, b.high, a) else {
         return Corner::Absent;
     };
-    let s = add_ordinals(format, x.low, q);
+    let s = sum_of(format, x.low, q);
     if b.low <= s {
         return Corner::At {
             x: x.low,
@@ -73,7 +73,7 @@ fn descend(format: Format, x: Range, a: Range, b: Range) -> Corner
     Corner::At {
         x: p,
         a: q,
-        b: add_ordinals(format, p, q),
+        b: sum_of(format, p, q),
     }
 }
 
@@ -88,7 +88,7 @@ fn walk(format: Format, x: Range, a: Range, b: Range) -> Corner
     if a.high < a.low {
         return Corner::Absent;
     }
-    let s = add_ordinals(format, x.low, a.high);
+    let s = sum_of(format, x.low, a.high);
     if s < b.low {
         return climb(format, x, a, b);
     }
@@ -140,7 +140,7 @@ pub(crate) fn corner_of(format: Format, x: Range, a: Range, b: Range) -> Corner
     requires { ⌜ (Sound format) × (Bounded format x) × (Bounded format a) × (Bounded format b) × (x .low ≤ x .high) × (a .low ≤ a .high) × (b .low ≤ b .high) ⌝ }
     ensures { λ r. ⌜ CornerOf format x a b r ⌝ }
 {
-    let s = add_ordinals(format, x.low, a.high);
+    let s = sum_of(format, x.low, a.high);
     if b.low <= s {
         if s <= b.high {
             return Corner::At {

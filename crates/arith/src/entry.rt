@@ -41,7 +41,7 @@ fn put_all(out: &mut [u8], x: Interval, a: Interval, b: Interval)
 }
 
 // The answer's number, and its ends in the buffer where there is room.
-fn put_answer(out: &mut [u8], answer: Narrowed) -> u64
+pub fn put_answer(out: &mut [u8], answer: Narrowed) -> u64
     ensures { λ r. ⌜ r ≡ exportNumber (length (now (out .entry))) answer ⌝ }
     ensures { λ _. ⌜ now (out .exit) ≡ exportBuffer (now (out .entry)) answer ⌝ }
 {
@@ -72,17 +72,8 @@ pub extern "C" fn tazsmibor_narrow(
     ensures { λ r. ⌜ r ≡ exportNumber (length (now (out .entry))) (narrowSix width «x_low» «x_high» «a_low» «a_high» «b_low» «b_high») ⌝ }
     ensures { λ _. ⌜ now (out .exit) ≡ exportBuffer (now (out .entry)) (narrowSix width «x_low» «x_high» «a_low» «a_high» «b_low» «b_high») ⌝ }
 {
-    let x = Interval {
-        low: x_low,
-        high: x_high,
-    };
-    let a = Interval {
-        low: a_low,
-        high: a_high,
-    };
-    let b = Interval {
-        low: b_low,
-        high: b_high,
-    };
+    let x = Interval::new(x_low, x_high);
+    let a = Interval::new(a_low, a_high);
+    let b = Interval::new(b_low, b_high);
     put_answer(out, narrow(width, x, a, b))
 }

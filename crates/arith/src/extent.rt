@@ -11,7 +11,6 @@ use crate::corner::Operands;
 use crate::corner::clamped_corner;
 use crate::exact::distance_from_zero;
 use crate::format::Format;
-use crate::hardware::add_ordinals;
 use crate::operand::Found;
 use crate::operand::least_operand;
 use crate::range::Range;
@@ -19,6 +18,7 @@ use crate::range::max;
 use crate::range::min;
 use crate::range::mirror_of;
 use crate::range::reflect;
+use crate::sum::sum_of;
 
 // A b that stands in a triple: the one known, or the least sum with c that is not below b, if that is less.
 fn lesser(format: Format, c: u64, x: Range, a: Range, b: Range, known: u64) -> u64
@@ -26,7 +26,7 @@ fn lesser(format: Format, c: u64, x: Range, a: Range, b: Range, known: u64) -> u
     ensures { λ r. ⌜ (HasB format x a b r) × (r ≤ known) × (AtMost format c (b .low) x r) ⌝ }
 {
     match least_operand(format, c, b.low, x) {
-        Found::At(y) => min(known, add_ordinals(format, y, c)),
+        Found::At(y) => min(known, sum_of(format, y, c)),
         Found::Absent => known,
     }
 }
@@ -99,7 +99,7 @@ fn least_b(format: Format, x: Range, a: Range, b: Range, known: u64) -> u64
     requires { ⌜ (Sound format) × (Bounded format x) × (Bounded format a) × (Bounded format b) × (b .low ≤ sum format (x .low) (a .high)) × (b .low ≤ sum format (x .high) (a .low)) × (HasB format x a b known) ⌝ }
     ensures { λ r. ⌜ Least (HasB format x a b) r ⌝ }
 {
-    let least = add_ordinals(format, x.low, a.low);
+    let least = sum_of(format, x.low, a.low);
     if b.low <= least {
         return least;
     }

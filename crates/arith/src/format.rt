@@ -2,11 +2,11 @@
 ghost use mathlib.Core.Path.{_≡_};
 ghost use Rattle.arith.specs.Formats.{isKnown, formatOf};
 
-pub(crate) struct Format {
-    pub(crate) fraction: u64,
-    pub(crate) exponent: u64,
-    pub(crate) sign: u64,
-    pub(crate) infinity: u64,
+pub struct Format {
+    pub fraction: u64,
+    pub exponent: u64,
+    pub sign: u64,
+    pub infinity: u64,
 }
 
 // Whether there is a format of the width: refusal 1 is for the others.
@@ -20,7 +20,7 @@ pub fn known(width: u64) -> bool
 }
 
 // The format of a known width. Any other is refused before its format is used; here it gets that of 64.
-pub(crate) fn format_of(width: u64) -> Format
+pub fn format_of(width: u64) -> Format
     ensures { λ r. ⌜ r ≡ formatOf width ⌝ }
 {
     if width == 32 {

@@ -190,6 +190,13 @@ fn mirror_in(format: Format, i: Interval) -> Image
 }
 
 impl Interval {
+    // The interval from low to high, whatever these are.
+    pub fn new(low: u64, high: u64) -> Self
+        ensures { λ r. ⌜ r ≡ record { low = low; high = high } ⌝ }
+    {
+        Interval { low, high }
+    }
+
     // The interval with its ends in canonical patterns; refusals 1, 2 for low then high, 3.
     pub fn canonical(self, width: u64) -> Image
         ensures { λ r. ⌜ r ≡ canonicalOf width self ⌝ }

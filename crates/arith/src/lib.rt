@@ -1,25 +1,18 @@
-// Arithmetic on binary floating-point patterns at both widths: the forward sum, intervals and the narrowing of one sum. All in integers, except that the narrowing adds and compares by the machine's floats. Rests on the crate `ladder`.
+// Arithmetic on binary floating-point patterns at both widths: the forward sum, intervals and the narrowing of one sum. All in integers, so that no answer depends on a floating-point environment. Rests on the crate `ladder`.
 mod clamp;
 mod corner;
-mod end;
-mod entry;
+pub mod entry;
 mod exact;
 mod extent;
 pub mod floats;
 pub mod format;
-mod grid;
-mod guess;
-mod half_ulp;
-mod hardware;
 pub mod interval;
-mod machine;
 pub mod narrow;
 mod operand;
 mod pattern;
 mod range;
 pub mod refusal;
 mod rounding;
-mod shortcut;
 pub mod sum;
 mod threshold;
 mod words;

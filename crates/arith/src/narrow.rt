@@ -21,8 +21,6 @@ use crate::range::Range;
 use crate::range::ordered;
 use crate::refusal::Refusal;
 use crate::refusal::refuse;
-use crate::shortcut::Shortcut;
-use crate::shortcut::shortcut_at;
 
 // The three intervals narrowed, or the refusal.
 pub enum Narrowed {
@@ -138,9 +136,5 @@ pub fn narrow(width: u64, x: Interval, a: Interval, b: Interval) -> Narrowed
     if !known(width) {
         return Narrowed::Refused(refuse(1));
     }
-    match shortcut_at(width, x, a, b) {
-        Shortcut::Ends { x: p, a: q, b: r } => Narrowed::Ends { x: p, a: q, b: r },
-        Shortcut::None => Narrowed::Refused(refuse(11)),
-        Shortcut::Unsure => narrow_in(format_of(width), x, a, b),
-    }
+    narrow_in(format_of(width), x, a, b)
 }

@@ -1,7 +1,7 @@
 // Step 2 of the forward sum: an exact sum rounded to the nearest float, at a tie to the even one, as if no exponent were too large.
 ghost use mathlib.Core.Path.{_≡_};
 ghost use Prim.Native.Nat.{_+_, _-_, _*_, _≤_, _<_, _^_};
-ghost use lib.Ieee.{size};
+ghost use Rattle.ladder.specs.Rounding.{digits};
 ghost use Rattle.arith.specs.Exacts.{Shaped, Low, Scales, sizeOf, joinedOf, roundingOf, Fraction, Digits};
 use crate::exact::Exact;
 use crate::words::digits;
@@ -56,7 +56,7 @@ pub(crate) fn scale(d: u64, t: Exact) -> Scaled
 
 // At most fraction + 1 digits: every digit is kept.
 fn round_short(fraction: u64, n: u64, shift: u64) -> Rounded
-    requires { ⌜ (Fraction fraction) × (size n ≤ fraction + 1) × (shift * 2 ^ fraction ≤ 2 ^ 63) ⌝ }
+    requires { ⌜ (Fraction fraction) × (digits n ≤ fraction + 1) × (shift * 2 ^ fraction ≤ 2 ^ 63) ⌝ }
     ensures { λ r. ⌜ r ≡ roundingOf fraction (n * 2 ^ shift) ⌝ }
 {
     if n == 0 {
@@ -80,7 +80,7 @@ fn round_short(fraction: u64, n: u64, shift: u64) -> Rounded
 
 // More digits: drop of them go, to the nearest, at a tie to the even one.
 fn round_long(fraction: u64, n: u64, shift: u64, drop: u64) -> Rounded
-    requires { ⌜ (Fraction fraction) × (size n ≡ fraction + 1 + drop) × (0 < drop) × (shift * 2 ^ fraction ≤ 2 ^ 63) ⌝ }
+    requires { ⌜ (Fraction fraction) × (digits n ≡ fraction + 1 + drop) × (0 < drop) × (shift * 2 ^ fraction ≤ 2 ^ 63) ⌝ }
     ensures { λ r. ⌜ r ≡ roundingOf fraction (n * 2 ^ shift) ⌝ }
 {
     let significand = shift_right(n, drop);

@@ -1,7 +1,7 @@
 // Shifts of a word by any amount, as products, quotients and remainders by a power of two, and the number of binary digits.
 ghost use mathlib.Core.Path.{_≡_};
 ghost use Prim.Native.Nat.{_*_, _/_, _%_, _^_, _<_, min};
-ghost use lib.Ieee.{size};
+ghost use Rattle.ladder.specs.Rounding.{digits};
 
 // n * 2^k
 pub(crate) fn shift_left(n: u64, k: u64) -> u64
@@ -40,7 +40,7 @@ pub(crate) fn sticky(n: u64, k: u64) -> u64
 
 // The number of binary digits, 0 for 0.
 pub(crate) fn digits(n: u64) -> u64
-    ensures { λ r. ⌜ r ≡ size n ⌝ }
+    ensures { λ r. ⌜ r ≡ digits n ⌝ }
 {
     64 - u64::leading_zeros(n) as u64
 }

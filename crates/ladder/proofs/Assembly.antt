@@ -6,7 +6,7 @@ use Rattle.ladder.specs.Narrowing.{none, ends, narrowing, HasX, HasA, Ha
 use Rattle.ladder.specs.Search.{Never}
 use Rattle.ladder.proofs.Narrowing.{narrowing-unique}
 use Rattle.ladder.proofs.Solutions.{Kept, kept-b, swap-spans}
-use Rattle.ladder.proofs.Hull.{Within, in-within, spans-within}
+use Rattle.ladder.proofs.Hull.{Within, in-within, spans-within, same-spans}
 
 module _ (f e : ℕ) (X A B : Interval) where
   pub never-x : Never (HasX f e X A B) → none ≡ narrowing f e X A B
@@ -33,7 +33,5 @@ module _ (f e : ℕ) (X A B : Interval) where
 
     pub assembled : (B' : Interval) → Spans (HasB f e X' A' B) B' → ends X' A' B' ≡ narrowing f e X A B
     assembled B' r =
-        let to = kept-b f e X A B X' A' B narrowed-kept in
-        let back = kept-b f e X' A' B X A B narrowed-given in
         narrowing-unique f e X A B (ends X' A' B')
-        (record { xs = p; «as» = a-spans; bs = record { low = back (B' .low) (r .low); high = back (B' .high) (r .high); all = λ y w. r .all y (to y w) } })
+        (record { xs = p; «as» = a-spans; bs = same-spans (kept-b f e X' A' B X A B narrowed-given) (kept-b f e X A B X' A' B narrowed-kept) B' r })

@@ -1,9 +1,9 @@
--- What a caller needs of the narrowing, so that none opens its definition: it loses no triple, stays inside the intervals given, keeps finite ends finite, and narrowing once more moves nothing. Assumes nothing.
+-- What a caller needs of the narrowing, so that none opens its definition: it loses no triple, stays inside the intervals given, keeps finite ends finite, narrowing once more moves nothing, and intervals with the same triples are narrowed alike. Assumes nothing.
 use mathlib.Core.Path.{_≡_, sym, subst}
 use Prim.Native.Nat.{ℕ, _≤_}
 use native.Mathlib.Omega.{arith}
 use Rattle.ladder.specs.Solution.{Interval, In, Solution, Bounded}
-use Rattle.ladder.specs.Narrowing.{none, ends, narrowing, HasX, HasA, HasB, Spans, Hull, IsNarrowing}
+use Rattle.ladder.specs.Narrowing.{Narrowing, none, ends, narrowing, HasX, HasA, HasB, Spans, Hull, IsNarrowing}
 use Rattle.ladder.proofs.Narrowing.{narrowing-is, narrowing-unique}
 use Rattle.ladder.proofs.Solutions.{Kept, kept-x, kept-a, kept-b}
 
@@ -82,3 +82,22 @@ module _ (f e : ℕ) (X A B : Interval) where
       -- narrowing the result changes nothing
       pub narrowing-idempotent : narrowing f e X' A' B' ≡ ends X' A' B'
       narrowing-idempotent = sym (narrowing-unique f e X' A' B' (ends X' A' B') hull-again)
+
+-- ---- intervals with the same triples
+-- what is the same set has the same least and greatest number
+pub same-spans : {P Q : ℕ → Type 0} → ((y : ℕ) → P y → Q y) → ((y : ℕ) → Q y → P y) → (I : Interval) → Spans P I → Spans Q I
+same-spans to from I s = record { low = to (I .low) (s .low); high = to (I .high) (s .high); all = λ y q. s .all y (from y q) }
+
+-- they are narrowed alike
+pub same-narrowing : (f e : ℕ) (X A B X' A' B' : Interval) → Kept f e X A B X' A' B' → Kept f e X' A' B' X A B → narrowing f e X' A' B' ≡ narrowing f e X A B
+same-narrowing f e X A B X' A' B' k j = go (narrowing f e X' A' B') (narrowing-is f e X' A' B')
+  where
+    go : (r : Narrowing) → IsNarrowing f e X' A' B' r → r ≡ narrowing f e X A B
+    go none n = narrowing-unique f e X A B none (λ x a b s. n x a b (k x a b s))
+    go (ends I J K) h =
+        narrowing-unique f e X A B (ends I J K)
+        (record {
+          xs = same-spans (kept-x f e X' A' B' X A B j) (kept-x f e X A B X' A' B' k) I (h .xs);
+          «as» = same-spans (kept-a f e X' A' B' X A B j) (kept-a f e X A B X' A' B' k) J (h .«as»);
+          bs = same-spans (kept-b f e X' A' B' X A B j) (kept-b f e X A B X' A' B' k) K (h .bs);
+        })

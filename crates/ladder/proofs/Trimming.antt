@@ -14,6 +14,7 @@ use Rattle.ladder.proofs.Cases.{le-or-lt}
 use Rattle.ladder.proofs.Ordinals.{infinity-lt-sign, finite-twice}
 use Rattle.ladder.proofs.Sum.{sum-comm, sum-mono, sum-mirror}
 use Rattle.ladder.proofs.Solutions.{swap, Kept}
+use Rattle.ladder.proofs.Hull.{same-narrowing}
 use Rattle.ladder.proofs.Corners.{corners-span}
 use Rattle.ladder.proofs.Assembly.{never-x, assembled}
 
@@ -90,6 +91,18 @@ module _ (f e : ℕ) (some : 1 ≤ f) where
         let i = side X A B x a p y w b s in
         let j = side A X B c z q w y b (swap s) in
         record { x-in = record { low = i .0; high = j .1 }; a-in = record { low = j .0; high = i .1 }; b-in = s .b-in; is = s .is }
+
+    -- and none is added, so that what is left is narrowed alike
+    trimmed-given : Kept f e X' A' B X A B
+    trimmed-given y w b s = record {
+      x-in = record { low = omega (arith, p .up, s .x-in .low); high = omega (arith, q .down, s .x-in .high) };
+      a-in = record { low = omega (arith, q .up, s .a-in .low); high = omega (arith, p .down, s .a-in .high) };
+      b-in = s .b-in;
+      is = s .is;
+    }
+
+    pub trimmed-same : narrowing f e X' A' B ≡ narrowing f e X A B
+    trimmed-same = same-narrowing f e X A B X' A' B trimmed-kept trimmed-given
 
     -- the ends have crossed
     pub trimmed-never-x : z < x → Never (HasX f e X A B)

@@ -4,9 +4,13 @@ use Prim.Native.Nat.{ℕ, suc, _+_, _-_, _*_, _/_, _^_}
 use lib.Ieee.{size}
 use lib.Ieee.Nearest.{closest}
 
+-- the number of binary digits, 0 for 0
+abbrev pub digits : ℕ → ℕ
+digits n = size n
+
 -- how many low digits of n are dropped, where f + 1 are kept
 unfoldable pub excess : ℕ → ℕ → ℕ
-excess f n = size n - suc f
+excess f n = digits n - suc f
 
 -- the m nearest to n units: the dropped digits count whole binades of 2^f, the kept ones go on top
 unfoldable pub round : ℕ → ℕ → ℕ

@@ -80,12 +80,8 @@ fn put_reply(r: Reply) {
     put_number(r.second);
 }
 
-fn interval(low: u64, high: u64) -> Interval {
-    Interval { low, high }
-}
-
 fn point(p: u64) -> Interval {
-    interval(p, p)
+    Interval::new(p, p)
 }
 
 // The sums of 01's second sheet; its listing has the first of them.
@@ -115,14 +111,14 @@ fn read(limit: u64, given: Four, n: usize, m: usize, reply: Reply, expected: Fou
 fn read_listed(limit: u64, reply: Reply) {
     put_text(b"lists, listing, limit");
     let given = Four {
-        c0: interval(0xC630000000000000, 0xC330000000000000),
-        c1: interval(0x3FF0000000000000, 0x4630000000000000),
-        c2: interval(0x3FE0000000000000, 0x3FF8000000000000),
+        c0: Interval::new(0xC630000000000000, 0xC330000000000000),
+        c1: Interval::new(0x3FF0000000000000, 0x4630000000000000),
+        c2: Interval::new(0x3FE0000000000000, 0x3FF8000000000000),
         c3: point(0x8000000000000000),
     };
     let expected = Four {
-        c0: interval(0xC33FFFFFFFFFFFFF, 0xC330000000000000),
-        c1: interval(0x4330000000000001, 0x4340000000000000),
+        c0: Interval::new(0xC33FFFFFFFFFFFFF, 0xC330000000000000),
+        c1: Interval::new(0x4330000000000001, 0x4340000000000000),
         c2: point(0x3FF0000000000000),
         c3: point(0x8000000000000000),
     };
@@ -132,9 +128,9 @@ fn read_listed(limit: u64, reply: Reply) {
 // 01's sheet of two sums, whose cells 0 and 2 lose a place at each end in every pass, here both from low to high.
 fn two_sums(low: u64, high: u64) -> Four {
     Four {
-        c0: interval(low, high),
+        c0: Interval::new(low, high),
         c1: point(1),
-        c2: interval(low, high),
+        c2: Interval::new(low, high),
         c3: point(0),
     }
 }

@@ -1,6 +1,5 @@
 // The narrowing of one sum at width 64 as floats: one where both ends agree, two otherwise, or none.
 use crate::hardware::bits64;
-use crate::intervals::interval;
 use crate::narrowings::all_floats;
 use crate::narrowings::one;
 use crate::narrowings::put_intervals;
@@ -61,7 +60,7 @@ fn values(x: Interval, a: Interval, b: Interval) -> Expected {
 }
 
 fn refused(refusal: u64) -> Expected {
-    let none = interval(1, 0);
+    let none = Interval::new(1, 0);
     Expected {
         refusal,
         x: none,
@@ -97,11 +96,11 @@ fn read_floats_of(x: Interval, a: Interval, b: Interval, expected: Expected) {
 pub(crate) fn read_floats() {
     let all = all_floats();
     let one = one();
-    let none = interval(1, 0);
-    let small = interval(0xBC90000000000000, 0x3CA0000000000000);
-    let large = interval(0x4340000000000000, 0x4350000000000000);
-    let minus_large = interval(0xC350000000000000, 0xC340000000000000);
-    let infinite = interval(0, 0x7FF0000000000000);
+    let none = Interval::new(1, 0);
+    let small = Interval::new(0xBC90000000000000, 0x3CA0000000000000);
+    let large = Interval::new(0x4340000000000000, 0x4350000000000000);
+    let minus_large = Interval::new(0xC350000000000000, 0xC340000000000000);
+    let infinite = Interval::new(0, 0x7FF0000000000000);
     read_floats_of(all, one, one, values(small, one, one));
     read_floats_of(large, minus_large, one, values(none, none, none));
     read_floats_of(none, one, infinite, refused(2));

@@ -96,10 +96,6 @@ pub(crate) fn put_interval(width: u64, i: Interval) {
     put_pattern(width, i.high);
 }
 
-pub(crate) fn interval(low: u64, high: u64) -> Interval {
-    Interval { low, high }
-}
-
 fn read_cut(width: u64, i: Interval, j: Interval, expected: Reply) {
     put_text(b"cut");
     put_number(width);
@@ -134,38 +130,38 @@ fn read_canonical(width: u64, i: Interval, expected: Reply) {
 fn read_cuts() {
     read_cut(
         32,
-        interval(0x3F800000, 0x40400000),
-        interval(0x40000000, 0x40800000),
+        Interval::new(0x3F800000, 0x40400000),
+        Interval::new(0x40000000, 0x40800000),
         span(0x40000000, 0x40400000),
     );
     read_cut(
         32,
-        interval(0x3F800000, 0x40000000),
-        interval(0x40400000, 0x40800000),
+        Interval::new(0x3F800000, 0x40000000),
+        Interval::new(0x40400000, 0x40800000),
         nothing(),
     );
     read_cut(
         32,
-        interval(0xBF800000, 0x80000000),
-        interval(0x00000000, 0x3F800000),
+        Interval::new(0xBF800000, 0x80000000),
+        Interval::new(0x00000000, 0x3F800000),
         span(0, 0),
     );
     read_cut(
         16,
-        interval(0x7F800000, 0),
-        interval(0x7F800000, 0),
+        Interval::new(0x7F800000, 0),
+        Interval::new(0x7F800000, 0),
         refused(1),
     );
     read_cut(
         32,
-        interval(0x40000000, 0x3F800000),
-        interval(0x40000000, 0x7F800000),
+        Interval::new(0x40000000, 0x3F800000),
+        Interval::new(0x40000000, 0x7F800000),
         refused(2),
     );
     read_cut(
         32,
-        interval(0x3F800000, 0x40000000),
-        interval(0x40000000, 0x3F800000),
+        Interval::new(0x3F800000, 0x40000000),
+        Interval::new(0x40000000, 0x3F800000),
         refused(3),
     );
 }
@@ -174,28 +170,28 @@ fn read_cuts() {
 fn read_shifts() {
     read_shift(
         64,
-        interval(0x3FF0000000000000, 0x3FF0000000000001),
+        Interval::new(0x3FF0000000000000, 0x3FF0000000000001),
         0x3CA0000000000000,
         span(0x3FF0000000000000, 0x3FF0000000000002),
     );
     read_shift(
         64,
-        interval(0xBFF0000000000000, 0x3FF0000000000000),
+        Interval::new(0xBFF0000000000000, 0x3FF0000000000000),
         0x3FF0000000000000,
         span(0x0000000000000000, 0x4000000000000000),
     );
-    read_shift(65, interval(0, 0), 0, refused(1));
-    read_shift(64, interval(0, 0), 0xFFF0000000000000, refused(2));
-    read_shift(64, interval(1, 0), 0x3FF0000000000000, refused(3));
+    read_shift(65, Interval::new(0, 0), 0, refused(1));
+    read_shift(64, Interval::new(0, 0), 0xFFF0000000000000, refused(2));
+    read_shift(64, Interval::new(1, 0), 0x3FF0000000000000, refused(3));
     read_shift(
         64,
-        interval(0, 0x7FEFFFFFFFFFFFFF),
+        Interval::new(0, 0x7FEFFFFFFFFFFFFF),
         0x7C90000000000000,
         refused(9),
     );
     read_shift(
         64,
-        interval(0xFFEFFFFFFFFFFFFF, 0),
+        Interval::new(0xFFEFFFFFFFFFFFFF, 0),
         0xFC90000000000000,
         refused(9),
     );
@@ -204,29 +200,29 @@ fn read_shifts() {
 fn read_mirrors() {
     read_mirror(
         64,
-        interval(0xBFF0000000000000, 0x4000000000000000),
+        Interval::new(0xBFF0000000000000, 0x4000000000000000),
         span(0xC000000000000000, 0x3FF0000000000000),
     );
     read_mirror(
         64,
-        interval(0, 0x3FF0000000000000),
+        Interval::new(0, 0x3FF0000000000000),
         span(0xBFF0000000000000, 0),
     );
-    read_mirror(63, interval(0, 0), refused(1));
-    read_mirror(64, interval(0xFFF0000000000000, 0), refused(2));
-    read_mirror(64, interval(0, 0x8000000000000001), refused(3));
+    read_mirror(63, Interval::new(0, 0), refused(1));
+    read_mirror(64, Interval::new(0xFFF0000000000000, 0), refused(2));
+    read_mirror(64, Interval::new(0, 0x8000000000000001), refused(3));
 }
 
 fn read_canonicals() {
-    read_canonical(32, interval(0x80000000, 0x80000000), span(0, 0));
+    read_canonical(32, Interval::new(0x80000000, 0x80000000), span(0, 0));
     read_canonical(
         32,
-        interval(0xFF7FFFFF, 0x7F7FFFFF),
+        Interval::new(0xFF7FFFFF, 0x7F7FFFFF),
         span(0xFF7FFFFF, 0x7F7FFFFF),
     );
-    read_canonical(31, interval(0, 0), refused(1));
-    read_canonical(32, interval(0, 0x100000000), refused(2));
-    read_canonical(32, interval(0x00000001, 0x80000000), refused(3));
+    read_canonical(31, Interval::new(0, 0), refused(1));
+    read_canonical(32, Interval::new(0, 0x100000000), refused(2));
+    read_canonical(32, Interval::new(0x00000001, 0x80000000), refused(3));
 }
 
 pub(crate) fn read_intervals() {

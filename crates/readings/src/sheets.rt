@@ -1,5 +1,4 @@
 // 01's sheets, run as kept sheets: outcome, passes, sum and the first four cells; and each refusal with its place.
-use crate::intervals::interval;
 use crate::intervals::put_interval;
 use crate::narrowings::equal_intervals;
 use crate::narrowings::point;
@@ -155,9 +154,9 @@ fn with_sum(sheet: Sheet, x: u64, a: u64, b: u64) -> Sheet {
 // The sheet of 01's listing.
 fn listed(limit: u64) -> Sheet {
     let s = opened(64, limit);
-    let s = with_cell(s, interval(0xC630000000000000, 0xC330000000000000));
-    let s = with_cell(s, interval(0x3FF0000000000000, 0x4630000000000000));
-    let s = with_cell(s, interval(0x3FE0000000000000, 0x3FF8000000000000));
+    let s = with_cell(s, Interval::new(0xC630000000000000, 0xC330000000000000));
+    let s = with_cell(s, Interval::new(0x3FF0000000000000, 0x4630000000000000));
+    let s = with_cell(s, Interval::new(0x3FE0000000000000, 0x3FF8000000000000));
     with_sum(s, 0, 1, 2)
 }
 
@@ -165,8 +164,8 @@ fn read_listed(limit: u64, reply: Reply) {
     put_text(b"sheet, listing, limit");
     put_number(limit);
     let cells = Four {
-        c0: interval(0xC33FFFFFFFFFFFFF, 0xC330000000000000),
-        c1: interval(0x4330000000000001, 0x4340000000000000),
+        c0: Interval::new(0xC33FFFFFFFFFFFFF, 0xC330000000000000),
+        c1: Interval::new(0x4330000000000001, 0x4340000000000000),
         c2: point(0x3FF0000000000000),
         c3: point(0),
     };
@@ -176,9 +175,9 @@ fn read_listed(limit: u64, reply: Reply) {
 // 01's sheet of two sums, whose cells 0 and 2 lose a place at each end in every pass.
 fn two_sums(limit: u64) -> Sheet {
     let s = opened(64, limit);
-    let s = with_cell(s, interval(0, 10));
+    let s = with_cell(s, Interval::new(0, 10));
     let s = with_cell(s, point(1));
-    let s = with_cell(s, interval(0, 10));
+    let s = with_cell(s, Interval::new(0, 10));
     let s = with_cell(s, point(0));
     let s = with_sum(s, 0, 1, 2);
     with_sum(s, 2, 3, 0)
@@ -189,9 +188,9 @@ fn read_two_sums(limit: u64, reply: Reply, low: u64, high: u64) {
     put_text(b"sheet, two sums, limit");
     put_number(limit);
     let cells = Four {
-        c0: interval(low, high),
+        c0: Interval::new(low, high),
         c1: point(1),
-        c2: interval(low, high),
+        c2: Interval::new(low, high),
         c3: point(0),
     };
     conclude(show_run(two_sums(limit)), reply, cells);
@@ -269,7 +268,7 @@ fn read_head(width: u64, limit: u64, cells: u64, sums: u64, number: u64, place: 
 
 // The last cell of three.
 fn read_last(low: u64, high: u64, number: u64) {
-    let cell = interval(low, high);
+    let cell = Interval::new(low, high);
     put_text(b"sheet, cell 2");
     put_interval(64, cell);
     read_refused(handed_three(cell, Record { x: 0, a: 1, b: 2 }), number, 2);
@@ -321,7 +320,7 @@ fn read_open(width: u64, limit: u64, number: u64) {
 
 // A cell added to a sheet of 64 zeros.
 fn read_cell(low: u64, high: u64, number: u64) {
-    let cell = interval(low, high);
+    let cell = Interval::new(low, high);
     put_text(b"sheet, add cell");
     put_interval(64, cell);
     let kept = add_cell(handed(64, 1, 64, 0), cell);

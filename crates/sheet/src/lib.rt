@@ -1,4 +1,4 @@
-// Sheets of cells and sums over them: kept, added to, tested and narrowed together; and lent lists, narrowed in place. Rests on the contracts of the crate `arith`.
+// Sheets of cells and sums over them: kept, added to, tested and narrowed together; and lent lists, narrowed in place. Rests on the contracts of the crates `arith` and `machine`.
 pub mod adding;
 pub mod fault;
 pub mod kept;

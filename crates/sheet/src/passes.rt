@@ -6,8 +6,8 @@ ghost use Rattle.sheet.specs.Narrowings.{endOf};
 use crate::kept::Sheet;
 use arith::interval::Interval;
 use arith::narrow::Narrowed;
-use arith::narrow::narrow;
 use arith::refusal::Refusal;
+use machine::narrow::narrow;
 
 // How a run ended, by pass and sum, both as 01 counts them; or the refusal of the sheet.
 pub enum Outcome {

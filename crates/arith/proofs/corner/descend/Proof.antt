@@ -40,14 +40,14 @@ returns c =
     let n : GreatestOf (Stays F (z .args .x .low) (z .args .b .high) (z .args .a)) Absent = rw (c .enum-told .given .1) at (c .before .before .greatest-operand .ensures) in
     descend-none (F .fraction) (F .exponent) (z .pre .0 .some) (span (z .args .x)) (span (z .args .a)) (span (z .args .b)) (z .pre .4) (z .pre .5) n
 
-add-ordinals-requires : tie.Need-add-ordinals-requires
-add-ordinals-requires c κs = let z = c .before .before .before .before in (z .pre .0, z .pre .1 .low, down-finite c)
+sum-of-requires : tie.Need-sum-of-requires
+sum-of-requires c κs = let z = c .before .before .before .before in (z .pre .0, z .pre .1 .low, down-finite c)
 
 returns-2 : tie.Need-returns-2
 returns-2 c =
     let z = c .before .before .before .before .before .before .before in
     let F = z .args .format in
-    let s = c .before .before .add-ordinals in
+    let s = c .before .before .sum-of in
     rw (s .ensures) (descend-once (F .fraction) (F .exponent) (z .pre .0 .some) (span (z .args .x)) (span (z .args .a)) (span (z .args .b)) (z .pre .4) (z .pre .5) (z .pre .7) _ (down (c .before .before .before)) (subst (λ (y : ℕ). z .args .b .low ≤ y) (s .ensures) (c .if1 .taken)))
 
 least-operand-requires : tie.Need-least-operand-requires
@@ -66,8 +66,8 @@ returns-3 c =
     let n : LeastOf (Attains F (c .before .before .before .before .before .before .before .q .given .0 .0) (z .args .b .low) (z .args .x)) Absent = rw (c .enum-told2 .given .1) at (c .before .before .least-operand .ensures) in
     descend-end (F .fraction) (F .exponent) (z .pre .0 .some) (span (z .args .x)) (span (z .args .a)) (span (z .args .b)) (z .pre .4) (z .pre .5) (z .pre .7) _ (down (c .before .before .before .before .before .before)) n
 
-add-ordinals-requires-2 : tie.Need-add-ordinals-requires-2
-add-ordinals-requires-2 c κs =
+sum-of-requires-2 : tie.Need-sum-of-requires-2
+sum-of-requires-2 c κs =
     let z = c .before .before .before .before .before .before .before .before .before .before .before in
     let F = z .args .format in
     (z .pre .0, finite-in (F .fraction) (F .exponent) (span (z .args .x)) (z .pre .1) _ (up c .holds .inside), down-finite (c .before .before .before .before .before .before .before))
@@ -76,8 +76,8 @@ returns-4 : tie.Need-returns-4
 returns-4 c =
     let z = c .before .before .before .before .before .before .before .before .before .before .before .before in
     let F = z .args .format in
-    let s = c .before .before .before .before .before .before .before .add-ordinals in
-    rw (c .add-ordinals2 .ensures) (descends (F .fraction) (F .exponent) (z .pre .0 .some) (span (z .args .x)) (span (z .args .a)) (span (z .args .b)) (z .pre .4) (z .pre .5) (z .pre .1) (z .pre .2) (z .pre .3) (z .pre .6) (z .pre .7) _ (down (c .before .before .before .before .before .before .before .before)) (subst (λ (y : ℕ). y < z .args .b .low) (s .ensures) (c .before .before .before .before .before .if1 .left)) _ (up (c .before)))
+    let s = c .before .before .before .before .before .before .before .sum-of in
+    rw (c .sum-of2 .ensures) (descends (F .fraction) (F .exponent) (z .pre .0 .some) (span (z .args .x)) (span (z .args .a)) (span (z .args .b)) (z .pre .4) (z .pre .5) (z .pre .1) (z .pre .2) (z .pre .3) (z .pre .6) (z .pre .7) _ (down (c .before .before .before .before .before .before .before .before)) (subst (λ (y : ℕ). y < z .args .b .low) (s .ensures) (c .before .before .before .before .before .if1 .left)) _ (up (c .before)))
 
 pub descend-spec : {M : Type 1} → statement M
 descend-spec =
@@ -87,11 +87,11 @@ descend-spec =
     enum-known-q
     enum-told
     returns
-    add-ordinals-requires
+    sum-of-requires
     returns-2
     least-operand-requires
     enum-known-p
     enum-told-2
     returns-3
-    add-ordinals-requires-2
+    sum-of-requires-2
     returns-4)

@@ -20,14 +20,14 @@ chosen : (P : Range → Range → Type 0) (x a y c : Range) → P x a → P a x 
 chosen P x a y c p q (inl (h, k)) = rw (h, k) p
 chosen P x a y c p q (inr (h, k)) = rw (h, k) q
 
-add-ordinals-requires : tie.Need-add-ordinals-requires
-add-ordinals-requires c κs = search needs
+sum-of-requires : tie.Need-sum-of-requires
+sum-of-requires c κs = search needs
 
 returns : tie.Need-returns
 returns c =
     let z = c .before .before .before in
     let F = z .args .format in
-    let t = c .before .before .add-ordinals in
+    let t = c .before .before .sum-of in
     lows-least (F .fraction) (F .exponent) (z .pre .0 .some) (span (z .args .x)) (span (z .args .a)) (span (z .args .b)) (t .result) (t .ensures) (z .args .known) (z .pre .6) (omega arith)
 
 returns-2 : tie.Need-returns-2
@@ -59,7 +59,7 @@ pub least-b-spec : {M : Type 1} → statement M
 least-b-spec =
     tie.close
     (tie.spec
-    add-ordinals-requires
+    sum-of-requires
     returns
     returns-2
     farther-first-requires

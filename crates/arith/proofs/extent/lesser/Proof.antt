@@ -23,8 +23,8 @@ least-operand-requires c κs =
 enum-known-y : tie.Need-enum-known-y
 enum-known-y c = search needs
 
-add-ordinals-requires : tie.Need-add-ordinals-requires
-add-ordinals-requires c κs =
+sum-of-requires : tie.Need-sum-of-requires
+sum-of-requires c κs =
     let z = c .before .before .before .before in
     let F = z .args .format in
     (z .pre .0, finite-in (F .fraction) (F .exponent) (span (z .args .x)) (z .pre .1) _ (found c .holds .inside), finite-in (F .fraction) (F .exponent) (span (z .args .a)) (z .pre .2) _ (record { low = z .pre .4; high = z .pre .5 }))
@@ -41,7 +41,7 @@ returns c =
     let F = z .args .format in
     let l = found (c .before .before) in
     let m = c .min .ensures in
-    let s = c .before .add-ordinals .ensures in
+    let s = c .before .sum-of .ensures in
     (rw (m, s) (sums-nearer (F .fraction) (F .exponent) (span (z .args .x)) (span (z .args .a)) (span (z .args .b)) (z .args .known) _ (z .args .c) (z .pre .6) (l .holds .inside) (record { low = z .pre .4; high = z .pre .5 }) (l .holds .enough)), omega (arith, m), least _ l (omega (arith, m, s)))
 
 returns-2 : tie.Need-returns-2
@@ -56,7 +56,7 @@ lesser-spec =
     (tie.spec
     least-operand-requires
     enum-known-y
-    add-ordinals-requires
+    sum-of-requires
     min-requires
     enum-told
     returns
