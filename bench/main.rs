@@ -1,10 +1,11 @@
 //! Nanoseconds for the library's forward sum, for its narrowing in integers and by the machine's floats and for a pass over a
-//! sheet, beside unverified baselines in the same run; for a pass also beside its narrowings by the library. Then the slowest
-//! narrowings and the longest run that were found, and how the cost grows: of a narrowing with the length of its intervals, of a
-//! run with its sums and passes.
+//! sheet of each kind of record, beside unverified baselines in the same run; for a pass of sums also beside its narrowings by
+//! the library. Then the slowest narrowings and the longest run that were found, and how the cost grows: of a narrowing with the
+//! length of its intervals, of a run with its sums and passes.
 //!
-//! Usage: bench PROGRAM, the program `narrow`. All sides get the same input and must give the same answers. Each figure is the
-//! best of many rounds in which the sides take turns; the result buffers are not cleared between calls.
+//! Usage: bench PROGRAM [EARLIER], the program `narrow` and an earlier build of it, beside which a pass of sums is timed too. All
+//! sides get the same input and must give the same answers. Each figure is the best of many rounds in which the sides take turns,
+//! but for the narrowings of a pass; the result buffers are not cleared between calls.
 
 #[path = "../tests/common/cases.rs"]
 mod cases;
@@ -165,8 +166,13 @@ fn main() {
     narrowings::<Binary64>(FEW);
     narrowings::<Binary32>(MANY);
     narrowings::<Binary64>(MANY);
-    let program = std::env::args().nth(1).expect("usage: bench PROGRAM");
+    let mut arguments = std::env::args().skip(1);
+    let program = arguments.next().expect("usage: bench PROGRAM [EARLIER]");
     passes::pass(&program);
+    passes::kinds(&program);
+    if let Some(earlier) = arguments.next() {
+        passes::builds(&program, &earlier);
+    }
     slowest::narrowings::<Binary32>();
     slowest::narrowings::<Binary64>();
     slowest::run(&program);

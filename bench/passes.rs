@@ -1,7 +1,8 @@
-//! A pass over a sheet of 64 cells and 128 sums by the program `narrow`, beside the reference in this process and beside its
-//! 128 narrowings through the library's fast C entry, whose code the program has.
+//! A pass over a sheet of 64 cells and 128 records by the program `narrow`, beside the reference in this process: of sums, also
+//! beside its 128 narrowings through the library's fast C entry, whose code the program has, and beside an earlier build; of
+//! diffs and of negs, also beside the pass of sums.
 //!
-//! A part of the sheet counts upward: each pass moves ends by a few floats, so a run makes all the passes that its limit
+//! A part of each sheet counts upward: each pass moves ends by a few floats, so a run makes all the passes that its limit
 //! allows. The time of a run of one pass is taken off, and with it the start of the program and the reading of the text.
 
 use crate::{best, report, round, sheet, tazsmibor};
@@ -11,10 +12,18 @@ use std::time::Instant;
 
 const PASSES: usize = 1_000;
 const ROUNDS: usize = 100;
+const SIGN: u64 = 1 << 63;
+
+/// A record by the cells it names.
+pub enum Record {
+    Sum([usize; 3]),
+    Diff([usize; 3]),
+    Neg([usize; 2]),
+}
 
 pub struct Sheet {
     pub cells: Vec<[u64; 2]>,
-    pub sums: Vec<[usize; 3]>,
+    pub records: Vec<Record>,
 }
 
 /// Four groups of 16 cells: a ring of 14 from 0 on, with the smallest float and zero; wide ones, from minus a power of two to
@@ -46,17 +55,49 @@ fn sums_of_round(i: usize) -> [[usize; 3]; 4] {
     ]
 }
 
+/// The same as diffs: around the ring and of a cancellation, where the cell to be taken off is mirrored; of wide cells as
+/// they are; and k + l + 2 less l + 1.
+fn diffs_of_round(i: usize) -> [[usize; 3]; 4] {
+    let [ring, wide, [k, l, sum], cancellation] = sums_of_round(i);
+    [ring, wide, [sum, l, k], cancellation]
+}
+
 impl Sheet {
-    fn new(sums: usize) -> Sheet {
-        Sheet { cells: cells(), sums: (0..32).flat_map(sums_of_round).take(sums).collect() }
+    fn sums(count: usize) -> Sheet {
+        Sheet { cells: cells(), records: (0..32).flat_map(sums_of_round).take(count).map(Record::Sum).collect() }
+    }
+
+    fn diffs() -> Sheet {
+        let mut cells = cells();
+        for i in (14..15).chain(55..62) {
+            let [low, high] = cells[i];
+            cells[i] = [high ^ SIGN, low ^ SIGN];
+        }
+        Sheet { cells, records: (0..32).flat_map(diffs_of_round).map(Record::Diff).collect() }
+    }
+
+    /// Negs alone settle soon, so one sum counts upward: cell 2 is the float after cell 0. From there 62 negs lead back to
+    /// cell 0 and move in every pass; the other 65 are the same once more and find nothing to move.
+    fn negs() -> Sheet {
+        let one = 1f64.to_bits();
+        let cell = |i: usize| if i % 2 == 0 { [0, one] } else { [one ^ SIGN, 0] };
+        let mut cells: Vec<[u64; 2]> = (0..64).map(cell).collect();
+        cells[1] = [1, 1];
+        let mut records = vec![Record::Sum([0, 1, 2])];
+        records.extend((2..64).cycle().take(127).map(|i| Record::Neg([i, (i + 1) % 64])));
+        Sheet { cells, records }
     }
 
     pub fn text(&self, limit: usize) -> String {
         let cell = |[low, high]: &[u64; 2]| format!("cell\t{low:016X}\t{high:016X}\n");
-        let sum = |[x, a, b]: &[usize; 3]| format!("sum\t{x}\t{a}\t{b}\n");
+        let record = |record: &Record| match record {
+            Record::Sum([x, a, b]) => format!("sum\t{x}\t{a}\t{b}\n"),
+            Record::Diff([x, a, b]) => format!("diff\t{x}\t{a}\t{b}\n"),
+            Record::Neg([x, y]) => format!("neg\t{x}\t{y}\n"),
+        };
         let cells: String = self.cells.iter().map(cell).collect();
-        let sums: String = self.sums.iter().map(sum).collect();
-        format!("sheet\t64\t{limit}\n{cells}{sums}")
+        let records: String = self.records.iter().map(record).collect();
+        format!("sheet\t64\t{limit}\n{cells}{records}")
     }
 
     /// The cell lines of a listing.
@@ -65,10 +106,11 @@ impl Sheet {
         self.cells.iter().enumerate().map(line).collect()
     }
 
-    /// One pass through the C entry; the ends that each of its narrowings is given.
+    /// One pass of sums through the C entry; the ends that each of its narrowings is given.
     fn pass(&mut self) -> Vec<[u64; 6]> {
         let mut given = vec![];
-        for sum in &self.sums {
+        for record in &self.records {
+            let Record::Sum(sum) = record else { panic!("bench: the C entry narrows sums") };
             let [x, a, b] = sum.map(|i| self.cells[i]);
             let ends = [x[0], x[1], a[0], a[1], b[0], b[1]];
             let mut result = [0; 48];
@@ -103,40 +145,75 @@ pub fn stopped(listing: &dyn Fn(&str) -> String, sheet: &Sheet, limit: usize) ->
     printed
 }
 
-pub fn pass(program: &str) {
-    let what = "a pass of 64 cells and 128 sums, width 64";
-    let mut sheet = Sheet::new(128);
-    let library = |text: &str| run(program, text);
-    let reference = |text: &str| sheet::listing(text.as_bytes());
-    let printed = stopped(&library, &sheet, 1 + PASSES);
-    assert_eq!(printed, reference(&sheet.text(1 + PASSES)), "bench: the program and the reference print different listings");
+fn reference(text: &str) -> String {
+    sheet::listing(text.as_bytes())
+}
 
-    let (one, all) = (sheet.text(1), sheet.text(1 + PASSES));
+/// The listing of a run of all passes, by the program and by another, which must print the same.
+fn agreed(library: &dyn Fn(&str) -> String, other: &dyn Fn(&str) -> String, sheet: &Sheet) -> String {
+    let printed = stopped(library, sheet, 1 + PASSES);
+    assert_eq!(printed, other(&sheet.text(1 + PASSES)), "bench: two sides print different listings");
+    printed
+}
+
+/// Nanoseconds a pass of each side, which is a program and its sheet.
+fn per_pass<const N: usize>(sides: [(&dyn Fn(&str) -> String, &Sheet); N]) -> [f64; N] {
+    let times = |limit: usize| {
+        let mut runs = sides.map(|(listing, sheet)| {
+            let text = sheet.text(limit);
+            move || time(listing, &text).0
+        });
+        best(ROUNDS, runs.each_mut().map(|run| run as &mut dyn FnMut() -> f64))
+    };
+    let (one, all) = (times(1), times(1 + PASSES));
+    std::array::from_fn(|i| (all[i] - one[i]) / PASSES as f64)
+}
+
+const SUMS: &str = "a pass of 64 cells and 128 sums, width 64";
+
+/// A pass of sums. Its narrowings are timed by themselves: a run of the program after them would start slower than others.
+pub fn pass(program: &str) {
+    let mut sheet = Sheet::sums(128);
+    let library = |text: &str| run(program, text);
+    let printed = agreed(&library, &reference, &sheet);
+    let [own, baseline] = per_pass([(&library, &sheet), (&reference, &sheet)]);
+
     sheet.pass();
     let narrowings: Vec<[u64; 6]> = (0..PASSES).flat_map(|_| sheet.pass()).collect();
     assert!(printed.ends_with(&sheet.lines()), "bench: the C entry and the program leave different cells");
+    let [narrowing] = best(ROUNDS, [&mut || round(tazsmibor::entry_fast, 64, &narrowings)]);
 
-    let [short, long, short_baseline, long_baseline, narrowing] = best(
-        ROUNDS,
-        [
-            &mut || time(&library, &one).0,
-            &mut || time(&library, &all).0,
-            &mut || time(&reference, &one).0,
-            &mut || time(&reference, &all).0,
-            &mut || round(tazsmibor::entry_fast, 64, &narrowings),
-        ],
-    );
-    let per_pass = |short: f64, long: f64| (long - short) / PASSES as f64;
-    let library = per_pass(short, long);
-    report(what, &[("library", library), ("reference", per_pass(short_baseline, long_baseline))]);
-    report(what, &[("library", library), ("its 128 narrowings", 128.0 * narrowing)]);
+    report(SUMS, &[("library", own), ("reference", baseline)]);
+    report(SUMS, &[("library", own), ("its 128 narrowings", 128.0 * narrowing)]);
+}
+
+/// A pass of diffs and one of negs.
+pub fn kinds(program: &str) {
+    let library = |text: &str| run(program, text);
+    let sums = Sheet::sums(128);
+    for (records, sheet) in [("128 diffs", Sheet::diffs()), ("127 negs after a sum that counts upward", Sheet::negs())] {
+        agreed(&library, &reference, &sheet);
+        let [own, of_sums, baseline] = per_pass([(&library, &sheet), (&library, &sums), (&reference, &sheet)]);
+        let what = format!("a pass of 64 cells and {records}, width 64");
+        report(&what, &[("library", own), ("reference", baseline)]);
+        report(&what, &[("library", own), ("128 sums", of_sums)]);
+    }
+}
+
+/// A pass of sums by the program and by an earlier build of it.
+pub fn builds(program: &str, earlier: &str) {
+    let (present, past) = (|text: &str| run(program, text), |text: &str| run(earlier, text));
+    let sheet = Sheet::sums(128);
+    agreed(&present, &past, &sheet);
+    let [present, past] = per_pass([(&present, &sheet), (&past, &sheet)]);
+    report(SUMS, &[("this build", present), ("the earlier build", past)]);
 }
 
 /// A pass by its sums, and by how many passes the run makes.
 pub fn growth(program: &str) {
     let library = |text: &str| run(program, text);
     for (sums, passes) in [(64, PASSES), (96, PASSES), (128, PASSES), (128, 4 * PASSES), (128, 16 * PASSES)] {
-        let sheet = Sheet::new(sums);
+        let sheet = Sheet::sums(sums);
         stopped(&library, &sheet, 1 + passes);
         let (one, all) = (sheet.text(1), sheet.text(1 + passes));
         let [short, long] = best(ROUNDS, [&mut || time(&library, &one).0, &mut || time(&library, &all).0]);

@@ -3,7 +3,7 @@
 use crate::cases;
 use crate::ends;
 use crate::floats::{Binary64, Range, Width};
-use crate::passes::{self, Sheet};
+use crate::passes::{self, Record, Sheet};
 use crate::words::Words;
 use crate::{Call, best, report, round, tazsmibor};
 
@@ -76,11 +76,12 @@ pub fn run(program: &str) {
     let mut words = Words(0x9E37_79B9_7F4A_7C15);
     let cases: Vec<[u64; 6]> = (0..CASES).filter_map(|_| narrowed(&ends::patterns::<Binary64>(any::<Binary64>(&mut words)))).collect();
     let slow = slowest(tazsmibor::entry_fast, 64, &cases);
-    let mut sheet = Sheet { cells: vec![[0, 200_000], [1, 1], [0, 200_000], [0, 0]], sums: vec![[0, 1, 2], [2, 3, 0]] };
+    let mut sheet = Sheet { cells: vec![[0, 200_000], [1, 1], [0, 200_000], [0, 0]], records: vec![] };
     for [xl, xh, al, ah, bl, bh] in &slow[..20] {
         sheet.cells.extend([[*xl, *xh], [*al, *ah], [*bl, *bh]]);
     }
-    sheet.sums.extend(mixed((0..126).map(|i| 4 + 3 * (i % 20)).collect()).into_iter().map(|c| [c, c + 1, c + 2]));
+    let slow_sums = mixed((0..126).map(|i| 4 + 3 * (i % 20)).collect()).into_iter().map(|c| [c, c + 1, c + 2]);
+    sheet.records.extend([[0, 1, 2], [2, 3, 0]].into_iter().chain(slow_sums).map(Record::Sum));
     let library = |text: &str| passes::run(program, text);
     passes::stopped(&library, &sheet, 65_535);
     let text = sheet.text(65_535);

@@ -6,11 +6,28 @@ use crate::narrowing::narrow;
 /// A refusal: its number and line.
 type Refusal = (u32, usize);
 
+/// A record by the cells it names: x + a = b, x + (-a) = b, y = -x.
+#[derive(Clone, Copy)]
+enum Record {
+    Sum([usize; 3]),
+    Diff([usize; 3]),
+    Neg([usize; 2]),
+}
+
+impl Record {
+    fn cells(&self) -> &[usize] {
+        match self {
+            Record::Sum(cells) | Record::Diff(cells) => cells,
+            Record::Neg(cells) => cells,
+        }
+    }
+}
+
 struct Sheet {
     width: u32,
     limit: u32,
     cells: Vec<Range>,
-    sums: Vec<[usize; 3]>,
+    records: Vec<Record>,
 }
 
 /// A decimal numeral of 1 to 5 digits, with no leading zero but in `0`.
@@ -41,7 +58,7 @@ fn head(fields: &[&[u8]]) -> Result<Sheet, u32> {
     if limit == 0 || limit > 65_535 {
         return Err(7);
     }
-    Ok(Sheet { width, limit, cells: vec![], sums: vec![] })
+    Ok(Sheet { width, limit, cells: vec![], records: vec![] })
 }
 
 impl Sheet {
@@ -59,35 +76,34 @@ impl Sheet {
         Ok(())
     }
 
-    /// A sum: 5, 6, 10.
-    fn add_sum(&mut self, sum: [usize; 3]) -> Result<(), u32> {
-        let [x, a, b] = sum;
-        if sum.iter().any(|c| *c >= self.cells.len()) {
+    /// A record of any kind: 5, 6, 10.
+    fn add_record(&mut self, record: Record) -> Result<(), u32> {
+        let named = record.cells();
+        if named.iter().any(|c| *c >= self.cells.len()) {
             return Err(5);
         }
-        if x == a || x == b || a == b {
+        if (1..named.len()).any(|i| named[..i].contains(&named[i])) {
             return Err(6);
         }
-        if self.sums.len() == 128 {
+        if self.records.len() == 128 {
             return Err(10);
         }
-        self.sums.push(sum);
+        self.records.push(record);
         Ok(())
     }
 
     /// A line after the first: 4, then the order of adding.
     fn add(&mut self, fields: &[&[u8]]) -> Result<(), u32> {
+        let cell = |f: &[u8]| numeral(f).map(|n| n as usize).ok_or(4u32);
         match fields {
             [b"cell", low, high] => {
                 let low = pattern(low, self.width).ok_or(4u32)?;
                 let high = pattern(high, self.width).ok_or(4u32)?;
                 self.add_cell(low, high)
             }
-            [b"sum", x, a, b] => {
-                let cell = |f: &[u8]| numeral(f).map(|n| n as usize).ok_or(4u32);
-                let sum = [cell(x)?, cell(a)?, cell(b)?];
-                self.add_sum(sum)
-            }
+            [b"sum", x, a, b] => self.add_record(Record::Sum([cell(x)?, cell(a)?, cell(b)?])),
+            [b"diff", x, a, b] => self.add_record(Record::Diff([cell(x)?, cell(a)?, cell(b)?])),
+            [b"neg", x, y] => self.add_record(Record::Neg([cell(x)?, cell(y)?])),
             _ => Err(4),
         }
     }
@@ -118,7 +134,30 @@ fn read(text: &[u8]) -> Result<Sheet, Refusal> {
 enum Outcome {
     Settled(u32),
     Stopped(u32),
-    NoTriple(u32, usize),
+    NoSolution(u32, usize),
+}
+
+/// The cells of a record get the least and greatest values in its solutions; none if it has no solution.
+fn narrow_record<W: Width>(cells: &mut [Range], record: Record) -> Option<()> {
+    match record {
+        Record::Sum([x, a, b]) => {
+            let n = narrow::<W>(cells[x], cells[a], cells[b])?;
+            (cells[x], cells[a], cells[b]) = (n.x, n.a, n.b);
+        }
+        Record::Diff([x, a, b]) => {
+            let n = narrow::<W>(cells[x], cells[a].mirror(), cells[b])?;
+            (cells[x], cells[a], cells[b]) = (n.x, n.a.mirror(), n.b);
+        }
+        Record::Neg([x, y]) => {
+            let (own, other) = (cells[x], cells[y].mirror());
+            let shared = Range { low: own.low.max(other.low), high: own.high.min(other.high) };
+            if shared.low > shared.high {
+                return None;
+            }
+            (cells[x], cells[y]) = (shared, shared.mirror());
+        }
+    }
+    Some(())
 }
 
 /// The run, as the requirement writes it out.
@@ -126,10 +165,9 @@ fn run<W: Width>(sheet: &mut Sheet) -> Outcome {
     let mut pass = 1;
     loop {
         let before = sheet.cells.clone();
-        for (i, [x, a, b]) in sheet.sums.iter().copied().enumerate() {
-            match narrow::<W>(sheet.cells[x], sheet.cells[a], sheet.cells[b]) {
-                None => return Outcome::NoTriple(pass, i),
-                Some(n) => (sheet.cells[x], sheet.cells[a], sheet.cells[b]) = (n.x, n.a, n.b),
+        for (i, record) in sheet.records.iter().enumerate() {
+            if narrow_record::<W>(&mut sheet.cells, *record).is_none() {
+                return Outcome::NoSolution(pass, i);
             }
         }
         if sheet.cells == before {
@@ -155,7 +193,7 @@ fn listing_of<W: Width>(mut sheet: Sheet) -> String {
     match run::<W>(&mut sheet) {
         Outcome::Settled(p) => format!("settled\t{p}\n{}", cell_lines::<W>(&sheet.cells)),
         Outcome::Stopped(p) => format!("stopped\t{p}\n{}", cell_lines::<W>(&sheet.cells)),
-        Outcome::NoTriple(p, i) => format!("none\t{p}\t{i}\n"),
+        Outcome::NoSolution(p, i) => format!("none\t{p}\t{i}\n"),
     }
 }
 

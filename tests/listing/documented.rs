@@ -50,10 +50,10 @@ pub fn patterns() -> (usize, usize) {
     (count, wrong)
 }
 
-/// All of them: at least four sheets and twenty-one refusals.
+/// All of them: at least five sheets and twenty-five refusals.
 pub fn examples() -> Vec<Case> {
     let (sheets, refusals) = (sheets(), refusals());
-    assert!(sheets.len() >= 4, "listing: only {} sheets in {NAME}", sheets.len());
-    assert!(refusals.len() >= 21, "listing: only {} refusals in {NAME}", refusals.len());
+    assert!(sheets.len() >= 5, "listing: only {} sheets in {NAME}", sheets.len());
+    assert!(refusals.len() >= 25, "listing: only {} refusals in {NAME}", refusals.len());
     [sheets, refusals].concat()
 }

@@ -10,7 +10,7 @@ use Rattle.ladder.specs.Ordinal as L
 use Rattle.ladder.proofs.Cases.{le-or-lt}
 use Rattle.ladder.proofs.Ordinals.{infinity-lt-sign}
 use Rattle.arith.specs.declared.format.Format.{Format}
-use Rattle.arith.specs.Formats.{binary, formatOf, Sound, isFinite, ordinal, pattern, Finite}
+use Rattle.arith.specs.Formats.{binary, formatOf, Sound, isFinite, ordinal, pattern, negated, Finite}
 use Rattle.arith.specs.Sums.{isFiniteOrdinal}
 
 -- a test of two parts
@@ -62,6 +62,11 @@ module _ (F : Format) (ok : Sound F) where
   pub pattern-high : (r : ℕ) → F .sign ≤ r → r - F .sign ≡ pattern F r
   unfolding L.pattern
   pattern-high r l = sym (ap (λ (s : ℕ). cond (ltb r s) (s + (s - r)) (r - s)) (sym (ok .sign)) ∙ ap (λ (b : Bool). cond b (F .sign + (F .sign - r)) (r - F .sign)) (le-ltb _ _ l))
+
+  -- the other sign, by the format's own number
+  pub negated-by : (p : ℕ) → cond (eqb p 0) 0 (cond (ltb p (F .sign)) (p + F .sign) (p - F .sign)) ≡ negated F p
+  unfolding L.negated
+  negated-by p = ap (λ (s : ℕ). cond (eqb p 0) 0 (cond (ltb p s) (p + s) (p - s))) (ok .sign)
 
   -- ---- finite ordinals
   pub finite-ordinal : (r : ℕ) → isFiniteOrdinal F r ≡ true → Finite F r

@@ -20,5 +20,5 @@ module _ (F : Format) (I : Interval) {f o : Bool} {R : Range} (e : f ≡ endsFin
   pub reversed : (P : Range) {q : Refusal} → not o ≡ true → q ≡ refusal 3 → Refused q ≡ imageOf F I P
   reversed P t d = passed Refused 2 _ _ (holds e h) (refused Refused 3 _ _ d (fails (p ∙ ap isOrdered r) t))
 
-  pub imaged : (image : Range → Range) {P : Range} {J : Interval} → not o ≡ false → P ≡ image R → J ≡ intervalOf F P → Is J ≡ imageOf F I (image (rangeOf F I))
-  imaged image l m j = passed Refused 2 _ _ (holds e h) (passed Refused 3 _ _ (holds (p ∙ ap isOrdered r) l) (ap Is (j ∙ ap (intervalOf F) (m ∙ ap image r))))
+  pub imaged : (P : Range) {J : Interval} → not o ≡ false → J ≡ intervalOf F P → Is J ≡ imageOf F I P
+  imaged P l j = passed Refused 2 _ _ (holds e h) (passed Refused 3 _ _ (holds (p ∙ ap isOrdered r) l) (ap Is j))

@@ -1,21 +1,25 @@
--- What a crate above needs of intervals, so that it opens no definition here: when one is refused, its ordinals, its written form, and the narrowing of three. Rests on `ladder`'s laws of ordinals.
-use mathlib.Core.Path.{_≡_, refl}
-use mathlib.Core.Bool.{Bool, true, false}
-use Prim.Native.Nat.{ℕ, suc, _<_, _≤_}
+-- What a crate above needs of intervals, so that it opens no definition here: when one is refused, its ordinals, its written form, its mirror, the cut of two and the narrowing of three. Rests on `ladder`'s laws of ordinals.
+use mathlib.Core.Path.{_≡_, refl, sym, ap}
+use mathlib.Core.Bool.{Bool, true, false, cond}
+use Prim.Native.Nat.{ℕ, suc, min, max, _<_, _≤_}
 use native.Mathlib.Omega.{arith}
+use lib.Dec.{leb}
 use borrow.Author.Tests.{leb-true, le-leb}
 use Rattle.ladder.specs.Solution as L
 use Rattle.ladder.specs.Solution.{Bounded}
+use Rattle.ladder.specs.Search.{reflection}
 use Rattle.ladder.proofs.Ordinals.{ordinal-pattern}
 use Rattle.arith.specs.declared.refusal.Refusal.{Refusal}
 use Rattle.arith.specs.declared.interval.Interval.{Interval}
+use Rattle.arith.specs.declared.interval.Cut.{Cut}
+use Rattle.arith.specs.declared.interval.Cut.the-variants as Cut
 use Rattle.arith.specs.declared.interval.Image.{Image}
 use Rattle.arith.specs.declared.interval.Image.the-variants.{Is, Refused}
 use Rattle.arith.specs.Refusals.{refusal, orRefuse}
 use Rattle.arith.specs.Formats.{isKnown, formatOf}
-use Rattle.arith.specs.Intervals.{Valid, endsFinite, isOrdered, rangeOf, intervalOf, canonicalIn, canonicalOf, span}
+use Rattle.arith.specs.Intervals.{Valid, endsFinite, isOrdered, rangeOf, intervalOf, mirroredEnds, canonicalIn, canonicalOf, sharedIn, cutIn, cutOf, mirrorIn, mirrorOf, span}
 use Rattle.arith.specs.Narrows.{narrowing, written, narrowAnswer, narrowOf}
-use Rattle.arith.proofs.Intervals.{range-ends}
+use Rattle.arith.proofs.Intervals.{range-ends, mirrored-ends}
 use Rattle.arith.proofs.Callers.{narrow-valid, written-finite}
 
 -- ---- its canonical form
@@ -64,6 +68,17 @@ pub valid-bounded : (width : ℕ) (I : Interval) → Valid width I → Bounded (
 unfolding isOrdered
 valid-bounded width I v = (range-ends (formatOf width) I (rangeOf (formatOf width) I) refl (v .finite), leb-true _ _ (v .ordered))
 
+-- its mirror by patterns is the one by ordinals
+pub mirrored-written :
+    (width : ℕ) (I : Interval) → Valid width I →
+    mirroredEnds (formatOf width) I ≡ written (formatOf width) (reflection (formatOf width .fraction) (formatOf width .exponent) (span (rangeOf (formatOf width) I)))
+mirrored-written width I v = mirrored-ends (formatOf width) I (v .finite)
+
+-- and it is what `mirror` gives
+pub valid-mirror : (width : ℕ) (I : Interval) → Valid width I → mirrorOf width I ≡ Is (mirroredEnds (formatOf width) I)
+unfolding mirrorOf mirrorIn
+valid-mirror width I v = simp (v .known, v .finite, v .ordered) (ap Is (sym (mirrored-written width I v)))
+
 module _ (width : ℕ) (I : L.Interval) (b : Bounded (formatOf width .fraction) (formatOf width .exponent) I) where
   -- the patterns of finite ends lead back to them
   pub written-span : span (rangeOf (formatOf width) (written (formatOf width) I)) ≡ I
@@ -83,6 +98,21 @@ module _ (width : ℕ) (I : L.Interval) (b : Bounded (formatOf width .fraction) 
         finite = written-finite (formatOf width) I b;
         ordered = rw (ordinal-pattern f e (I .low) (b .low), ordinal-pattern f e (I .high) (b .high)) (le-leb _ _ o);
       }
+
+-- ---- the cut of two
+-- what two intervals of ordinals share; nothing where its low is above its high
+abbrev pub shared : L.Interval → L.Interval → L.Interval
+shared I J = record { low = max (I .low) (J .low); high = min (I .high) (J .high) }
+
+-- as the cut answers it
+abbrev pub cutAnswer : ℕ → L.Interval → Cut
+cutAnswer width S = cond (leb (S .low) (S .high)) (Cut.Shared (written (formatOf width) S)) Cut.Empty
+
+pub valid-cut :
+    (width : ℕ) (I J : Interval) → Valid width I → Valid width J →
+    cutOf width I J ≡ cutAnswer width (shared (span (rangeOf (formatOf width) I)) (span (rangeOf (formatOf width) J)))
+unfolding cutOf cutIn sharedIn isOrdered
+valid-cut width I J u v = simp (u .known, u .finite, v .finite, u .ordered, v .ordered)
 
 -- ---- the narrowing of three
 pub valid-narrow :

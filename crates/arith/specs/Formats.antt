@@ -39,6 +39,10 @@ ordinal F p = L.ordinal (F .fraction) (F .exponent) p
 abbrev pub pattern : Format → ℕ → ℕ
 pattern F r = L.pattern (F .fraction) (F .exponent) r
 
+-- the pattern with the other sign, of both zeros the one that is written
+abbrev pub negated : Format → ℕ → ℕ
+negated F p = L.negated (F .fraction) (F .exponent) p
+
 -- r is the ordinal of a finite float of the format
 abbrev pub Finite : Format → ℕ → Type 0
 Finite F r = L.Finite (F .fraction) (F .exponent) r

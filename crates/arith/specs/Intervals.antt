@@ -13,7 +13,7 @@ use Rattle.arith.specs.declared.interval.Cut.the-variants as Cut
 use Rattle.arith.specs.declared.interval.Image.{Image}
 use Rattle.arith.specs.declared.interval.Image.the-variants as Image
 use Rattle.arith.specs.Refusals.{orRefuse}
-use Rattle.arith.specs.Formats.{isKnown, formatOf, isFinite, ordinal, pattern, sum, mirrored}
+use Rattle.arith.specs.Formats.{isKnown, formatOf, isFinite, ordinal, pattern, negated, sum, mirrored}
 use Rattle.arith.specs.Sums.{isFiniteOrdinal}
 
 -- refusal 2 for low, then high
@@ -61,6 +61,10 @@ translated F R c = record { low = sum F (R .low) c; high = sum F (R .high) c }
 -- from -high to -low, on ordinals
 abbrev pub reflected : Format → Range → Range
 reflected F R = record { low = mirrored F (R .high); high = mirrored F (R .low) }
+
+-- from -high to -low, on patterns
+abbrev pub mirroredEnds : Format → Interval → Interval
+mirroredEnds F I = record { low = negated F (I .high); high = negated F (I .low) }
 
 -- ---- the answers in a format
 -- canonical: 2 for low, high; 3

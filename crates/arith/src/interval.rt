@@ -1,20 +1,20 @@
 // Intervals of patterns, with their cut, shift and mirror. Results are written in canonical patterns.
 ghost use mathlib.Core.Path.{_≡_};
 ghost use mathlib.Core.Bool.{true};
-ghost use Rattle.arith.specs.Formats.{Sound, Finite};
+ghost use Rattle.arith.specs.Formats.{Sound, Finite, formatOf};
 ghost use Rattle.arith.specs.Sums.{isFiniteOrdinal};
-ghost use Rattle.arith.specs.Intervals.{Bounded, endsFinite, rangeOf, intervalOf, sharedIn, movedIn, translated, canonicalIn, cutIn, shiftIn, mirrorIn, canonicalOf, cutOf, shiftOf, mirrorOf};
+ghost use Rattle.arith.specs.Intervals.{Bounded, mirroredEnds, endsFinite, rangeOf, intervalOf, sharedIn, movedIn, translated, canonicalIn, cutIn, shiftIn, mirrorIn, canonicalOf, cutOf, shiftOf, mirrorOf};
 ghost use Rattle.arith.specs.Answers.{cutTold, imageTold};
 ghost use Rattle.arith.specs.Replies.{replyAfter, ownTests, cutTests, shiftTests, canonicalValues, cutValues, shiftValues, mirrorValues};
 use crate::format::Format;
 use crate::format::format_of;
 use crate::format::known;
 use crate::pattern::finite;
+use crate::pattern::negate;
 use crate::pattern::ordinal_of;
 use crate::pattern::pattern_of;
 use crate::range::Range;
 use crate::range::ordered;
-use crate::range::reflect;
 use crate::range::shared;
 use crate::refusal::Refusal;
 use crate::refusal::refuse;
@@ -174,6 +174,17 @@ fn shift_in(format: Format, i: Interval, c: u64) -> Image
     moved_in(format, translate(format, own, ordinal_of(format, c)))
 }
 
+// The ends exchanged, each with the other sign.
+fn mirrored(format: Format, i: Interval) -> Interval
+    requires { ⌜ Sound format ⌝ }
+    ensures { λ r. ⌜ r ≡ mirroredEnds format i ⌝ }
+{
+    Interval {
+        low: negate(format, i.high),
+        high: negate(format, i.low),
+    }
+}
+
 // The mirror in a format.
 fn mirror_in(format: Format, i: Interval) -> Image
     requires { ⌜ Sound format ⌝ }
@@ -186,7 +197,7 @@ fn mirror_in(format: Format, i: Interval) -> Image
     if !ordered(own) {
         return Image::Refused(refuse(3));
     }
-    Image::Is(interval_of(format, reflect(format, own)))
+    Image::Is(mirrored(format, i))
 }
 
 impl Interval {
@@ -228,6 +239,13 @@ impl Interval {
             return Image::Refused(refuse(1));
         }
         shift_in(format_of(width), self, c)
+    }
+
+    // From -high to -low, and no test: what `mirror` gives of an interval that it does not refuse.
+    pub fn mirror_ends(self, width: u64) -> Self
+        ensures { λ r. ⌜ r ≡ mirroredEnds (formatOf width) self ⌝ }
+    {
+        mirrored(format_of(width), self)
     }
 
     // From -high to -low; refusals 1, 2, 3.

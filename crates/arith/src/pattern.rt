@@ -1,7 +1,7 @@
-// Patterns and ordinals: which patterns are finite, the ordinal of a pattern of the width, and the one pattern that is written for a finite ordinal.
+// Patterns and ordinals: which patterns are finite, the one with the other sign, the ordinal of a pattern of the width, and the one pattern that is written for a finite ordinal.
 ghost use mathlib.Core.Path.{_≡_};
 ghost use Prim.Native.Nat.{_*_, _<_};
-ghost use Rattle.arith.specs.Formats.{Sound, Finite, isFinite, ordinal, pattern};
+ghost use Rattle.arith.specs.Formats.{Sound, Finite, isFinite, negated, ordinal, pattern};
 use crate::format::Format;
 
 // Whether a pattern is finite. One with bits beyond the width is not.
@@ -13,6 +13,20 @@ pub(crate) fn finite(format: Format, p: u64) -> bool
         return p < format.infinity;
     }
     p - format.sign < format.infinity
+}
+
+// The pattern with the other sign; both zeros have one.
+pub(crate) fn negate(format: Format, p: u64) -> u64
+    requires { ⌜ Sound format ⌝ }
+    ensures { λ r. ⌜ r ≡ negated format p ⌝ }
+{
+    if p == 0 {
+        return 0;
+    }
+    if p < format.sign {
+        return p + format.sign;
+    }
+    p - format.sign
 }
 
 // The ordinal of a pattern with no bits beyond the width, an infinity's and a NaN's too.

@@ -15,7 +15,7 @@ use Rattle.arith.specs.Narrows.{narrowOf}
 use Rattle.sheet.specs.declared.kept.Record.{Record}
 use Rattle.sheet.specs.declared.kept.Sheet.{Sheet}
 use Rattle.sheet.specs.declared.passes.Outcome.the-variants.{Settled, NoTriple, Stopped}
-use Rattle.sheet.specs.Sheets.{noCell, noSum, filled}
+use Rattle.sheet.specs.Sheets.{noCell, noRecord, filled}
 use Rattle.sheet.specs.Narrowings.{narrowSheetOf}
 use Rattle.listing.specs.Listings.{runOf, listingOf}
 use Rattle.examples.specs.Quoted.{bytes}
@@ -76,21 +76,21 @@ pub record Narrowings : Type 0 where
       ≡ Ends (interval 0xC33FFFFFFFFFFFFF 0xC330000000000000) (interval 0x4330000000000001 0x4340000000000000) one64
 
 -- ---- sheets
--- a sheet of width 64 with these cells and sums
+-- a sheet of width 64 with these cells and records
 abbrev pub sheet : ℕ → List Interval → List Record → Sheet
-sheet limit cells sums =
+sheet limit cells records =
     record {
       width = 64;
       limit = limit;
       «cell_count» = length cells;
-      «sum_count» = length sums;
+      «record_count» = length records;
       cells = filled 64 noCell cells (length cells);
-      sums = filled 128 noSum sums (length sums);
+      records = filled 128 noRecord records (length records);
     }
 
--- a sum over cells
+-- a sum over three cells
 abbrev pub over : ℕ → ℕ → ℕ → Record
-over x a b = record { x = x; a = a; b = b }
+over x a b = record { kind = 0; x = x; a = a; b = b }
 
 -- document 000's sheet
 abbrev pub sheet000 : List Interval → Sheet

@@ -7,7 +7,7 @@ use native.Mathlib.Omega.{arith}
 use lib.Pow.{pow-pos, pow-add}
 use borrow.Author.Tests.{lt-ltb, le-ltb, eq-eqb, ne-eqb, ltb-true}
 use Rattle.ladder.specs.Magnitude.{magnitude}
-use Rattle.ladder.specs.Ordinal.{sign, infinity, isFinite, ordinal, pattern, canonical, mirrored, Finite, above, below}
+use Rattle.ladder.specs.Ordinal.{sign, infinity, isFinite, ordinal, pattern, canonical, negated, mirrored, Finite, above, below}
 use Rattle.ladder.proofs.Cases.{le-or-lt, trichotomy}
 use Rattle.ladder.proofs.Magnitude.{magnitude-lt, magnitude-le, magnitude-zero}
 use Rattle.ladder.proofs.Rounding.{even-pow}
@@ -100,6 +100,24 @@ module _ (f e : ℕ) where
   ordinal-pattern r h = elim (le-or-lt s r) [
     | inl l ↦ ap (ordinal f e) (pattern-high r l) ∙ ordinal-low (r - s) (omega (arith, infinity-lt-sign f e)) ∙ omega arith
     | inr l ↦ ap (ordinal f e) (pattern-low r l) ∙ ordinal-high (s + (s - r)) (omega arith) ∙ omega arith
+  ]
+
+  -- the other sign, by patterns and by ordinals
+  pub negated-is : (p : ℕ) → isFinite f e p ≡ true → negated f e p ≡ pattern f e (mirrored f e (ordinal f e p))
+  unfolding negated
+  negated-is p h = elim (trichotomy p 0) [
+    | inl l ↦ absurd (omega arith)
+    | inr r ↦ elim r [
+      | inl z ↦ rw (eq-eqb p 0 z, ordinal-low p (omega (arith, infinity-lt-sign f e)), pattern-high (2 * s - (s + p)) (omega arith)) (omega arith)
+      | inr l ↦ elim (le-or-lt s p) [
+        | inl k ↦
+            let q = finite-high p h k in
+            rw (ne-eqb p 0 (λ z. omega arith), le-ltb p s k, ordinal-high p k, pattern-high (2 * s - (s - (p - s))) (omega (arith, infinity-lt-sign f e)))
+            (omega (arith, infinity-lt-sign f e))
+        | inr k ↦
+            rw (ne-eqb p 0 (λ z. omega arith), lt-ltb p s k, ordinal-low p k, pattern-low (2 * s - (s + p)) (omega arith)) (omega arith)
+      ]
+    ]
   ]
 
   -- ---- values

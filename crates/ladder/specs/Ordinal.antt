@@ -33,6 +33,10 @@ pattern f e r = cond (ltb r (sign f e)) (sign f e + (sign f e - r)) (r - sign f 
 unfoldable pub canonical : ℕ → ℕ → ℕ → ℕ
 canonical f e p = cond (eqb p (sign f e)) 0 p
 
+-- the pattern with the other sign, of both zeros the one that is written
+unfoldable pub negated : ℕ → ℕ → ℕ → ℕ
+negated f e p = cond (eqb p 0) 0 (cond (ltb p (sign f e)) (p + sign f e) (p - sign f e))
+
 -- r is the ordinal of a finite float
 pub record Finite (f e r : ℕ) : Type 0 where
   pub low : sign f e < r + infinity f e

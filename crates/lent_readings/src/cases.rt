@@ -5,7 +5,7 @@ use sheet::kept::Record;
 // How many places the arrays have: two more than a sheet, of each kind.
 pub(crate) const CELLS: usize = 66;
 
-const SUMS: usize = 130;
+const RECORDS: usize = 130;
 
 // The same cells twice: to lend, and in the places of a sheet.
 pub(crate) struct Cells {
@@ -13,8 +13,8 @@ pub(crate) struct Cells {
     pub(crate) kept: [Interval; 64],
 }
 
-// The same sums twice.
-pub(crate) struct Sums {
+// The same records twice.
+pub(crate) struct Records {
     pub(crate) lent: [Record; 130],
     pub(crate) kept: [Record; 128],
 }
@@ -73,23 +73,38 @@ fn cell_of(width: u64, calm: bool, w: u64) -> Interval {
     }
 }
 
-// A sum over n cells: one cell of each third, in some cases x and b exchanged, in two of 128 a faulty one; 0 1 2 where there are fewer than three cells.
-fn sum_of(n: u64, calm: bool, w: u64) -> Record {
+// A record of a kind, with 0 as the third number of a neg.
+fn of_kind(kind: u64, x: u64, a: u64, b: u64) -> Record {
+    let third = if kind == 2 { 0 } else { b };
+    Record {
+        kind,
+        x,
+        a,
+        b: third,
+    }
+}
+
+// A record over n cells, a sum, a diff or a neg: one cell of each third, in some cases x and b exchanged, in six of 256 a faulty one; 0 1 2 where there are fewer than three cells.
+fn record_of(n: u64, calm: bool, w: u64) -> Record {
+    let kind = (w >> 32) % 3;
     let k = n % 67 / 3;
     if k == 0 {
-        return Record { x: 0, a: 1, b: 2 };
+        return of_kind(kind, 0, 1, 2);
     }
     let x = w % k;
     let a = k + (w >> 8) % k % 67;
     let b = 2 * k + (w >> 16) % k % 67;
     if calm {
-        return Record { x, a, b };
+        return of_kind(kind, x, a, b);
     }
-    match (w >> 24) % 128 {
-        0 => Record { x, a: x, b },
-        1 => Record { x, a, b: n },
-        2..=40 => Record { x: b, a, b: x },
-        _ => Record { x, a, b },
+    match (w >> 24) % 256 {
+        0 => Record { kind: 2, x, a, b },
+        1 => of_kind(kind, n, a, b),
+        2 => of_kind(3, x, a, b),
+        3 => of_kind(w | 3, x, a, b),
+        4..=5 => of_kind(kind, x, x, b),
+        6..=83 => of_kind(kind, b, a, x),
+        _ => of_kind(kind, x, a, b),
     }
 }
 
@@ -109,18 +124,23 @@ pub(crate) fn make_cells(width: u64, calm: bool, seed: u64) -> Cells {
     Cells { lent, kept }
 }
 
-pub(crate) fn make_sums(n: u64, calm: bool, seed: u64) -> Sums {
-    let none = Record { x: 0, a: 0, b: 0 };
+pub(crate) fn make_records(n: u64, calm: bool, seed: u64) -> Records {
+    let none = Record {
+        kind: 0,
+        x: 0,
+        a: 0,
+        b: 0,
+    };
     let mut lent = [none; 130];
     let mut kept = [none; 128];
     let mut w = seed;
-    for k in 0..SUMS {
+    for k in 0..RECORDS {
         w = next_word(w);
-        let sum = sum_of(n, calm, w);
-        lent[k] = sum;
+        let record = record_of(n, calm, w);
+        lent[k] = record;
         if k < 128 {
-            kept[k] = sum;
+            kept[k] = record;
         }
     }
-    Sums { lent, kept }
+    Records { lent, kept }
 }

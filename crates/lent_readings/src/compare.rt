@@ -2,9 +2,9 @@
 ghost use Prim.Native.Nat.{_≤_};
 use crate::cases::CELLS;
 use crate::cases::Cells;
-use crate::cases::Sums;
+use crate::cases::Records;
 use crate::cases::make_cells;
-use crate::cases::make_sums;
+use crate::cases::make_records;
 use crate::cases::next_word;
 use crate::lending::lend;
 use crate::reply::equal;
@@ -73,23 +73,23 @@ fn compare_case(
     limit: u64,
     cells: Cells,
     n: usize,
-    sums: Sums,
+    records: Records,
     m: usize,
 ) -> Tally
     requires { ⌜ (n ≤ 66) × (m ≤ 130) ⌝ }
 {
     let given = cells.lent;
     let kept_cells = cells.kept;
-    let named = sums.lent;
-    let kept_sums = sums.kept;
+    let named = records.lent;
+    let kept_records = records.kept;
     let left = lend(width, limit, given, n, named, m);
     let run = narrow_sheet(Sheet {
         width,
         limit,
         cell_count: n as u64,
-        sum_count: m as u64,
+        record_count: m as u64,
         cells: kept_cells,
-        sums: kept_sums,
+        records: kept_records,
     });
     let outcome = run.outcome;
     let lent_outcome = left.outcome;
@@ -103,7 +103,7 @@ fn compare_case(
     count_verdict(count_outcome(tally, lent_outcome), agrees)
 }
 
-// Case c: every length of cells in turn; widths, limits, sums and faults by the word w.
+// Case c: every length of cells in turn; widths, limits, records and faults by the word w.
 fn next_case(tally: Tally, c: u64, w: u64) -> Tally {
     let width = match w % 32 {
         0 => 16,
@@ -125,14 +125,14 @@ fn next_case(tally: Tally, c: u64, w: u64) -> Tally {
         _ => v % 5,
     };
     let cells = make_cells(width, calm, w);
-    let sums = make_sums(n, calm, next_word(w));
+    let records = make_records(n, calm, next_word(w));
     compare_case(
         tally,
         width,
         limit,
         cells,
         n as usize,
-        sums,
+        records,
         (m % 131) as usize,
     )
 }

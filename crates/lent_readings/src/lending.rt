@@ -15,17 +15,17 @@ fn gather(cells: [Interval; 66], outcome: Outcome) -> Left {
     Left { cells, outcome }
 }
 
-// The first n cells and the first m sums are lent.
+// The first n cells and the first m records are lent.
 pub(crate) fn lend(
     width: u64,
     limit: u64,
     mut cells: [Interval; 66],
     n: usize,
-    sums: [Record; 130],
+    records: [Record; 130],
     m: usize,
 ) -> Left
     requires { ⌜ (n ≤ 66) × (m ≤ 130) ⌝ }
 {
-    let outcome = narrow_lists(width, limit, &mut cells[..n], &sums[..m]);
+    let outcome = narrow_lists(width, limit, &mut cells[..n], &records[..m]);
     gather(cells, outcome)
 }

@@ -1,4 +1,4 @@
-// Test program: 01's sheets as lent lists, a line each, and lent lists of many lengths, each beside the kept sheet of the same cells and sums. What it writes is held to the file `stdout`.
+// Test program: 01's sheets and records of each kind as lent lists, a line each, and lent lists of many lengths, each beside the kept sheet of the same cells and records. What it writes is held to the file `stdout`.
 mod cases;
 mod compare;
 mod lending;

@@ -1,7 +1,7 @@
 // An outcome in numbers.
 use sheet::passes::Outcome;
 
-// 1 settled and 2 stopped with the passes, 3 no triple with pass and sum, 4 refused with number and place.
+// 1 settled and 2 stopped with the passes, 3 no triple with pass and record, 4 refused with number and place.
 pub(crate) struct Reply {
     pub(crate) kind: u64,
     pub(crate) first: u64,
@@ -24,15 +24,15 @@ pub(crate) fn stopped(passes: u64) -> Reply {
     }
 }
 
-pub(crate) fn no_triple(pass: u64, sum: u64) -> Reply {
+pub(crate) fn no_triple(pass: u64, record: u64) -> Reply {
     Reply {
         kind: 3,
         first: pass,
-        second: sum,
+        second: record,
     }
 }
 
-fn refused(number: u64, place: u64) -> Reply {
+pub(crate) fn refused(number: u64, place: u64) -> Reply {
     Reply {
         kind: 4,
         first: number,
@@ -43,7 +43,7 @@ fn refused(number: u64, place: u64) -> Reply {
 pub(crate) fn reply_of(outcome: Outcome) -> Reply {
     match outcome {
         Outcome::Settled { passes } => settled(passes),
-        Outcome::NoTriple { pass, sum } => no_triple(pass, sum),
+        Outcome::NoTriple { pass, record } => no_triple(pass, record),
         Outcome::Stopped { passes } => stopped(passes),
         Outcome::Refused(r) => refused(r.number, r.place),
     }

@@ -64,6 +64,7 @@ pub(crate) fn put_tally(t: Tally) {
     put(b", 10:", t.refused[10]);
     put(b", 2:", t.refused[2]);
     put(b", 3:", t.refused[3]);
+    put(b", 4:", t.refused[4]);
     put(b", 5:", t.refused[5]);
     put(b", 6:", t.refused[6]);
     put(b"; differed from the kept sheet", t.differed);

@@ -49,7 +49,7 @@ unfoldable pub cellLines : ℕ → ℕ → List Interval → List ℕ
 cellLines width i [] = []
 cellLines width i (I ∷ Is) = cellLine width i I ++ cellLines width (i + 1) Is
 
--- ---- the listing of an outcome: `settled` or `stopped` with the passes made and the cells; `none` with pass and sum; `refused` with number and place
+-- ---- the listing of an outcome: `settled` or `stopped` with the passes made and the cells; `none` with pass and record; `refused` with number and place
 unfoldable pub linesOf : Outcome → ℕ → List Interval → List ℕ
 linesOf (Settled p) width cells = worded settledWord p feed ++ cellLines width 0 cells
 linesOf (NoTriple p k) width cells = pairLine noneWord p k

@@ -78,7 +78,7 @@ pub(crate) fn put_lines(
             let p = put_word(buf, b"settled", passes, 10);
             put_cells(buf, p, width, count, cells)
         }
-        Outcome::NoTriple { pass, sum } => put_pair(buf, b"none", pass, sum),
+        Outcome::NoTriple { pass, record } => put_pair(buf, b"none", pass, record),
         Outcome::Stopped { passes } => {
             let p = put_word(buf, b"stopped", passes, 10);
             put_cells(buf, p, width, count, cells)

@@ -3,6 +3,7 @@ use libc::STDOUT_FILENO;
 use reader::cursor::Step;
 use reader::text::nth;
 use reader::text::part;
+use sheet::kept::Record;
 
 fn put_text(text: &[u8]) {
     io::write_all(STDOUT_FILENO, text);
@@ -12,6 +13,20 @@ fn put_text(text: &[u8]) {
 fn put_number(n: u64) {
     put_text(b"\t");
     io::print_decimal(STDOUT_FILENO, n);
+}
+
+// A record over cells by the word for its kind, and its three numbers.
+fn put_record(record: Record) {
+    let kind = record.kind;
+    match kind {
+        0 => put_text(b"sum"),
+        1 => put_text(b"diff"),
+        2 => put_text(b"neg"),
+        _ => put_text(b"unknown"),
+    }
+    put_number(record.x);
+    put_number(record.a);
+    put_number(record.b);
 }
 
 // The fields of a record, that the text has ended, or a refusal's number and line.
@@ -27,12 +42,7 @@ fn put_step(step: Step) {
             put_number(cell.low);
             put_number(cell.high);
         }
-        Step::Sum { sum, .. } => {
-            put_text(b"sum");
-            put_number(sum.x);
-            put_number(sum.a);
-            put_number(sum.b);
-        }
+        Step::Record { record, .. } => put_record(record),
         Step::End => put_text(b"end"),
         Step::Refused(r) => {
             put_text(b"refused");
@@ -54,11 +64,11 @@ fn show_records(text: &[u8], n: u16) {
     }
 }
 
-// A text to its end, and the end again; a refused record, stayed at; a last line without its line feed; no head; empty text; text too long.
+// A text with a record of each kind to its end, and the end again; a refused record, stayed at; a last line without its line feed; no head; empty text; text too long.
 pub(crate) fn read_records() {
     show_records(
-        b"sheet\t32\t10\ncell\t3F800000\t40000000\ncell\t00000000\t00000001\ncell\t80000000\t7F7FFFFF\nsum\t0\t1\t2\n",
-        7,
+        b"sheet\t32\t10\ncell\t3F800000\t40000000\ncell\t00000000\t00000001\ncell\t80000000\t7F7FFFFF\nsum\t0\t1\t2\ndiff\t2\t1\t0\nneg\t1\t2\n",
+        9,
     );
     show_records(
         b"sheet\t64\t10\ncell\t0000000000000000\t0000000000000001\nrow\t0\t1\nsum\t0\t1\t2\n",
@@ -66,6 +76,10 @@ pub(crate) fn read_records() {
     );
     show_records(
         b"sheet\t64\t10\ncell\t0000000000000000\t0000000000000001\nsum\t0\t0\t1\n",
+        4,
+    );
+    show_records(
+        b"sheet\t64\t10\ncell\t0000000000000000\t0000000000000001\nneg\t0\t1\t0\n",
         4,
     );
     show_records(b"sheet\t64\t10\nsum\t0\t1\t2", 3);

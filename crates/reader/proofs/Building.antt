@@ -1,4 +1,4 @@
--- Sheets by the lists of their cells and sums: such a sheet passes its own test and is in its written form, and adding puts one more at the end. Rests on specs/Texts and the laws of `sheet`.
+-- Sheets by the lists of their cells and records: such a sheet passes its own test and is in its written form, and adding puts one more at the end. Rests on specs/Texts and the laws of `sheet`.
 use mathlib.Core.Path.{_≡_, refl, sym, ap, _∙_}
 use mathlib.Core.List.{List, [], _∷_, _++_, map, append-assoc, map-append}
 use Prim.Native.Nat.{ℕ, suc, _+_, _-_, _≤_, _<_}
@@ -11,8 +11,8 @@ use Rattle.arith.proofs.Valid.{valid-bounded, written-span}
 use Rattle.sheet.specs.declared.kept.Record.{Record}
 use Rattle.sheet.specs.declared.kept.Answer.the-variants.{Done}
 use Rattle.sheet.specs.Cells.{ordinalsOf, patternsOf, canonicalCell}
-use Rattle.sheet.specs.Faults.{headFault, cellFault, sumFault}
-use Rattle.sheet.specs.Sheets.{noCell, noSum, filled, usedCells, usedSums, tidied, withCell, withSum, firstFault, testOf, addCellOf, addSumOf}
+use Rattle.sheet.specs.Faults.{headFault, cellFault, recordFault}
+use Rattle.sheet.specs.Sheets.{noCell, noRecord, filled, usedCells, usedRecords, tidied, withCell, withRecord, firstFault, testOf, addCellOf, addRecordOf}
 use Rattle.sheet.specs.Lists.{testOfLists}
 use Rattle.sheet.proofs.Answers.{all-good, passes-test, added}
 use Rattle.sheet.proofs.Firsts.{faultless, none-found}
@@ -66,9 +66,9 @@ module _ (w : ℕ) where
 pub record Passing (w m : ℕ) (cs : List Interval) (ts : List Record) : Type 0 where
   pub head : headFault w m ≡ 0
   pub few-cells : length cs ≤ 64
-  pub few-sums : length ts ≤ 128
+  pub few-records : length ts ≤ 128
   pub cells : Faultless (cellFault w) cs
-  pub sums : Faultless (sumFault (length cs)) ts
+  pub records : Faultless (recordFault (length cs)) ts
 
 pub lists-passing : (w m : ℕ) (cs : List Interval) (ts : List Record) → testOfLists w m cs ts ≡ Done → Passing w m cs ts
 lists-passing w m cs ts e =
@@ -76,9 +76,9 @@ lists-passing w m cs ts e =
     record {
       head = p .head;
       few-cells = p .few-cells;
-      few-sums = p .few-sums;
+      few-records = p .few-records;
       cells = faultless-list (cellFault w) noCell 0 cs (p .cells-good);
-      sums = faultless-list (sumFault (length cs)) noSum 0 ts (p .sums-good);
+      records = faultless-list (recordFault (length cs)) noRecord 0 ts (p .records-good);
     }
 
 -- one more in the place that comes next
@@ -94,23 +94,23 @@ module _ (w m : ℕ) (cs : List Interval) (ts : List Record) (g : Passing w m cs
   used-cells : usedCells (built w m cs ts) ≡ map (canonicalCell w) cs
   used-cells = take-at (map (canonicalCell w) cs) (replicate (64 - length cs) noCell) (length cs) (length-map cs (canonicalCell w))
 
-  used-sums : usedSums (built w m cs ts) ≡ ts
-  used-sums = take-at ts (replicate (128 - length ts) noSum) (length ts) refl
+  used-records : usedRecords (built w m cs ts) ≡ ts
+  used-records = take-at ts (replicate (128 - length ts) noRecord) (length ts) refl
 
   pub built-passes : testOf (built w m cs ts) ≡ Done
   built-passes =
-      passes-test w m (length cs) (length ts) (usedCells (built w m cs ts)) (usedSums (built w m cs ts))
+      passes-test w m (length cs) (length ts) (usedCells (built w m cs ts)) (usedRecords (built w m cs ts))
       (record {
         head = g .head;
         few-cells = g .few-cells;
-        few-sums = g .few-sums;
+        few-records = g .few-records;
         cells-good = rw used-cells (first-none (cellFault w) 0 (map (canonicalCell w) cs) (cells-faultless w cs (g .cells)));
-        sums-good = rw used-sums (first-none (sumFault (length cs)) 0 ts (g .sums));
+        records-good = rw used-records (first-none (recordFault (length cs)) 0 ts (g .records));
       })
 
   built-tidied : tidied (built w m cs ts) ≡ built w m cs ts
   unfolding tidied
-  built-tidied = rw (used-cells, used-sums, cells-again w cs (g .cells))
+  built-tidied = rw (used-cells, used-records, cells-again w cs (g .cells))
 
   pub add-cell : (I : Interval) → cellFault w I ≡ 0 → length cs < 64 → addCellOf (built w m cs ts) I ≡ record { sheet = built w m (cs ++ (I ∷ [])) ts; answer = Done }
   unfolding addCellOf
@@ -118,8 +118,8 @@ module _ (w m : ℕ) (cs : List Interval) (ts : List Record) (g : Passing w m cs
       sym (added (built w m cs ts) (withCell (tidied (built w m cs ts)) (canonicalCell w I)) (testOf (built w m cs ts)) (cellFault w I) _ built-passes z (lt-ltb (length cs) 64 h))
       ∙ rw (built-tidied, length-more cs I, map-append (canonicalCell w) cs (I ∷ []), filled-more 64 (length cs) noCell (canonicalCell w I) (map (canonicalCell w) cs) (length-map cs (canonicalCell w)) h)
 
-  pub add-sum : (t : Record) → sumFault (length cs) t ≡ 0 → length ts < 128 → addSumOf (built w m cs ts) t ≡ record { sheet = built w m cs (ts ++ (t ∷ [])); answer = Done }
-  unfolding addSumOf
-  add-sum t z h =
-      sym (added (built w m cs ts) (withSum (tidied (built w m cs ts)) t) (testOf (built w m cs ts)) (sumFault (length cs) t) _ built-passes z (lt-ltb (length ts) 128 h))
-      ∙ rw (built-tidied, length-more ts t, filled-more 128 (length ts) noSum t ts refl h)
+  pub add-record : (t : Record) → recordFault (length cs) t ≡ 0 → length ts < 128 → addRecordOf (built w m cs ts) t ≡ record { sheet = built w m cs (ts ++ (t ∷ [])); answer = Done }
+  unfolding addRecordOf
+  add-record t z h =
+      sym (added (built w m cs ts) (withRecord (tidied (built w m cs ts)) t) (testOf (built w m cs ts)) (recordFault (length cs) t) _ built-passes z (lt-ltb (length ts) 128 h))
+      ∙ rw (built-tidied, length-more ts t, filled-more 128 (length ts) noRecord t ts refl h)

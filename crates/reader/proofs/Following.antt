@@ -7,13 +7,13 @@ use lib.ListN.{length}
 use Rattle.sheet.specs.declared.kept.Sheet.{Sheet}
 use Rattle.sheet.specs.declared.kept.Kept.{Kept}
 use Rattle.sheet.specs.declared.kept.Answer.the-variants as Answer
-use Rattle.sheet.specs.Sheets.{blank, openOf, addCellOf, addSumOf}
+use Rattle.sheet.specs.Sheets.{blank, openOf, addCellOf, addRecordOf}
 use Rattle.reader.specs.Steps.{start, nextOf, afterOf, cursorAfter}
 use Rattle.reader.specs.Readings.{refusedText, followed, readFrom, readOf, BlankIfRefused, sheetAfter, EndsWith, ReadBy}
 use Rattle.reader.specs.declared.cursor.Cursor.{Cursor}
 use Rattle.reader.specs.declared.cursor.Step.{Step}
-use Rattle.reader.specs.declared.cursor.Step.the-variants.{Head, Cell, Sum, End, Refused}
-use Rattle.reader.proofs.Moving.{StepFrom, a-head, a-cell, a-sum, the-end, too-long, a-refusal, step-from}
+use Rattle.reader.specs.declared.cursor.Step.the-variants.{Head, Cell, Record, End, Refused}
+use Rattle.reader.proofs.Moving.{StepFrom, a-head, a-cell, a-record, the-end, too-long, a-refusal, step-from}
 
 -- the whole text gives what reading on from c with the sheet s gives, and there are steps enough to reach the end
 pub record Reading (text : List ℕ) (c : Cursor) (s : Sheet) : Type 0 where
@@ -34,7 +34,7 @@ pub record Onward (text : List ℕ) (c d : Cursor) (s : Sheet) : Type 0 where
 abbrev pub Follows : List ℕ → Cursor → Sheet → Step → Type 0
 Follows text c s (Head w m d) = Onward text c d (openOf w m .sheet)
 Follows text c s (Cell i d) = Onward text c d (addCellOf s i .sheet)
-Follows text c s (Sum t d) = Onward text c d (addSumOf s t .sheet)
+Follows text c s (Record t d) = Onward text c d (addRecordOf s t .sheet)
 Follows text c s End = readOf text ≡ record { sheet = s; answer = Answer.Done }
 Follows text c s (Refused r) = readOf text ≡ refusedText r
 
@@ -45,7 +45,7 @@ module _ (text : List ℕ) (c : Cursor) (n : ℕ) (h : length text - c .at < suc
   step-follows : (s : Sheet) (t : Step) → StepFrom text c t → readOf text ≡ followed (readFrom n text) s t → Follows text c s t
   step-follows s (Head w m d) (a-head z f o) e = onward d (openOf w m .sheet) (o .past) (o .within) e
   step-follows s (Cell I d) (a-cell p f l o) e = onward d (addCellOf s I .sheet) (o .past) (o .within) e
-  step-follows s (Sum t d) (a-sum p f l o) e = onward d (addSumOf s t .sheet) (o .past) (o .within) e
+  step-follows s (Record t d) (a-record p f l o) e = onward d (addRecordOf s t .sheet) (o .past) (o .within) e
   step-follows s End (the-end p) e = e
   step-follows s (Refused r) (too-long l) e = e
   step-follows s (Refused r) (a-refusal n) e = e
@@ -69,7 +69,7 @@ module _ (text : List ℕ) where
     unfolding cursorAfter afterOf sheetAfter
     step-records (Head w m d) e (a-head z f o) = goes d (openOf w m .sheet) (rw e) (rw e) (o .past) (o .within)
     step-records (Cell I d) e (a-cell p f l o) = goes d (addCellOf (sheetAfter k text) I .sheet) (rw e) (rw e) (o .past) (o .within)
-    step-records (Sum t d) e (a-sum p f l o) = goes d (addSumOf (sheetAfter k text) t .sheet) (rw e) (rw e) (o .past) (o .within)
+    step-records (Record t d) e (a-record p f l o) = goes d (addRecordOf (sheetAfter k text) t .sheet) (rw e) (rw e) (o .past) (o .within)
     step-records End e g = record { records = k; ends = rw e refl }
     step-records (Refused r) e g = record { records = k; ends = rw e refl }
 
@@ -86,7 +86,7 @@ module _ (text : List ℕ) where
 ends-blank : (s : Sheet) (t : Step) (k : Kept) → EndsWith s t k → BlankIfRefused k
 ends-blank s (Head w m d) k e = absurd e
 ends-blank s (Cell I d) k e = absurd e
-ends-blank s (Sum t d) k e = absurd e
+ends-blank s (Record t d) k e = absurd e
 ends-blank s End k e = λ n. absurd (n (rw e))
 ends-blank s (Refused r) k e = λ n. rw e
 

@@ -12,15 +12,15 @@ use Rattle.reader.specs.Steps.{nextOf, past, afterOf, cursorAfter, lineN
 use Rattle.reader.specs.Readings.{refusedText, readOf, sheetAfter, EndsWith, ReadBy, RefusedIn}
 use Rattle.reader.specs.declared.cursor.Cursor.{Cursor}
 use Rattle.reader.specs.declared.cursor.Step.{Step}
-use Rattle.reader.specs.declared.cursor.Step.the-variants.{Head, Cell, Sum, End, Refused}
-use Rattle.reader.proofs.Moving.{Lined, StepFrom, a-head, a-cell, a-sum, too-long, a-refusal, step-from}
+use Rattle.reader.specs.declared.cursor.Step.the-variants.{Head, Cell, Record, End, Refused}
+use Rattle.reader.proofs.Moving.{Lined, StepFrom, a-head, a-cell, a-record, too-long, a-refusal, step-from}
 use Rattle.reader.proofs.Following.{read-records}
 
 -- ---- the cursor
 after-line : (text : List ℕ) (c : Cursor) → Lined text c → (t : Step) → StepFrom text c t → Lined text (past t c)
 after-line text c l (Head w m d) (a-head z f o) = o .line l
 after-line text c l (Cell I d) (a-cell p f m o) = o .line l
-after-line text c l (Sum t d) (a-sum p f m o) = o .line l
+after-line text c l (Record t d) (a-record p f m o) = o .line l
 after-line text c l End g = l
 after-line text c l (Refused r) g = l
 
@@ -46,7 +46,7 @@ module _ (text : List ℕ) (r : Refusal) where
   ends-refused : (k : ℕ) (s : Sheet) (t : Step) → nextOf text (cursorAfter k text) ≡ t → EndsWith s t (refusedText r) → RefusedIn text r
   ends-refused k s (Head w m d) f e = absurd e
   ends-refused k s (Cell I d) f e = absurd e
-  ends-refused k s (Sum t d) f e = absurd e
+  ends-refused k s (Record t d) f e = absurd e
   ends-refused k s End f e = let a = ap (λ (a : Kept). a .answer) e in absurd (let z : _≡_ {A = ℕ} 0 1 = cc in omega arith)
   ends-refused k s (Refused q) f e = let a = ap (λ (a : Kept). a .answer) e in let i : q ≡ r = cc in refused-at k (f ∙ ap Refused i)
 

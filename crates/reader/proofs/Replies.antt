@@ -8,16 +8,16 @@ use lib.ListN.{length, drop}
 use Rattle.arith.specs.Answers.{Reply}
 use Rattle.arith.specs.Replies.{replyAfter}
 use Rattle.arith.proofs.Replies.{on-test}
-use Rattle.sheet.specs.Faults.{headFault, cellFault, sumFault}
+use Rattle.sheet.specs.Faults.{headFault, cellFault, recordFault}
 use Rattle.reader.specs.Bytes.{indexOf, before}
 use Rattle.reader.specs.Lines.{feed, lineOf}
-use Rattle.reader.specs.Steps.{headStep, cellStep, sumStep, admitted, pastLine, stepAt, nextOf, past, afterOf}
+use Rattle.reader.specs.Steps.{headStep, cellStep, recordStep, admitted, pastLine, stepAt, nextOf, past, afterOf}
 use Rattle.reader.specs.Replies.{stepTold, lineTests, lineValues, replyAt, replyNext, Tells}
 use Rattle.reader.specs.declared.line.Line.{Line}
 use Rattle.reader.specs.declared.line.Line.the-variants as Line
 use Rattle.reader.specs.declared.cursor.Cursor.{Cursor}
 use Rattle.reader.specs.declared.cursor.Step.{Step}
-use Rattle.reader.specs.declared.cursor.Step.the-variants.{Head, Cell, Sum, End, Refused}
+use Rattle.reader.specs.declared.cursor.Step.the-variants.{Head, Cell, Record, End, Refused}
 use Rattle.reader.proofs.Staying.{stays-ended}
 
 -- ---- one test
@@ -28,10 +28,10 @@ not-told false a b e f = f
 
 -- ---- a line
 line-told : (l : Line) (n : ℕ) (c : Cursor) → stepTold (admitted l (c .line) (pastLine n c)) ≡ replyAfter (lineTests l c) (lineValues l)
-unfolding admitted headStep cellStep sumStep
+unfolding admitted headStep cellStep recordStep
 line-told (Line.Head w m) n c = on-test stepTold (eqb (headFault w m) 0) _ _ (λ _. refl) refl
 line-told (Line.Cell I) n c = on-test stepTold (eqb (cellFault (c .width) I) 0) _ _ (λ _. on-test stepTold (ltb (c .«cell_count») 64) _ _ (λ _. refl) refl) refl
-line-told (Line.Sum t) n c = on-test stepTold (eqb (sumFault (c .«cell_count») t) 0) _ _ (λ _. on-test stepTold (ltb (c .«sum_count») 128) _ _ (λ _. refl) refl) refl
+line-told (Line.Record t) n c = on-test stepTold (eqb (recordFault (c .«cell_count») t) 0) _ _ (λ _. on-test stepTold (ltb (c .«record_count») 128) _ _ (λ _. refl) refl) refl
 line-told Line.Malformed n c = refl
 
 -- ---- a text
@@ -49,7 +49,7 @@ next-told text c = on-test stepTold (ltb 8192 (length text)) _ _ (λ _. refl) (a
 past-refused : (s : Step) (c : Cursor) → (stepTold s .number ≡ 0 → ⊥) → past s c ≡ c
 past-refused (Head w m next) c n = absurd (n refl)
 past-refused (Cell I next) c n = absurd (n refl)
-past-refused (Sum t next) c n = absurd (n refl)
+past-refused (Record t next) c n = absurd (n refl)
 past-refused End c n = refl
 past-refused (Refused r) c n = refl
 

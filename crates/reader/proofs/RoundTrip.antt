@@ -13,20 +13,20 @@ use Rattle.arith.specs.Formats.{isKnown}
 use Rattle.sheet.specs.declared.kept.Record.{Record}
 use Rattle.sheet.specs.declared.kept.Sheet.{Sheet}
 use Rattle.sheet.specs.declared.kept.Answer.the-variants.{Done}
-use Rattle.sheet.specs.Faults.{headFault, cellFault, sumFault}
-use Rattle.sheet.specs.Sheets.{blank, usedCells, usedSums, tidied, testOf}
+use Rattle.sheet.specs.Faults.{headFault, cellFault, recordFault}
+use Rattle.sheet.specs.Sheets.{blank, usedCells, usedRecords, tidied, testOf}
 use Rattle.sheet.specs.Lists.{testOfLists}
 use Rattle.sheet.proofs.Answers.{opened, all-good}
-use Rattle.sheet.proofs.Sums.{names-of}
+use Rattle.sheet.proofs.Records.{names-of, first-in, second-in, third-in}
 use Rattle.sheet.proofs.Tidied.{good-head}
 use Rattle.reader.specs.Bytes.{indexOf, countOf}
 use Rattle.reader.specs.Lines.{feed}
-use Rattle.reader.specs.Steps.{start, headStep, cellStep, sumStep, admitted, nextOf}
+use Rattle.reader.specs.Steps.{start, headStep, cellStep, recordStep, admitted, nextOf}
 use Rattle.reader.specs.Readings.{readFrom, readOf}
-use Rattle.reader.specs.Texts.{headText, cellText, sumText, textLines, textFor, built, textOf}
-use Rattle.reader.specs.declared.cursor.Step.the-variants.{Head, Cell, Sum, End}
-use Rattle.reader.proofs.Building.{Faultless, faultless-front, faultless-next, Passing, lists-passing, length-more, add-cell, add-sum}
-use Rattle.reader.proofs.Records.{cell-small, Few, head-back, cell-back, sum-back, head-free, cell-free, sum-free, head-length, cell-length, sum-length}
+use Rattle.reader.specs.Texts.{headText, cellText, recordText, textLines, textFor, built, textOf}
+use Rattle.reader.specs.declared.cursor.Step.the-variants as Step
+use Rattle.reader.proofs.Building.{Faultless, faultless-front, faultless-next, Passing, lists-passing, length-more, add-cell, add-record}
+use Rattle.reader.proofs.Records.{cell-small, Few, head-back, cell-back, record-back, head-free, cell-free, record-free, head-length, cell-length, record-length}
 use Rattle.reader.proofs.Walking.{after, next-line, walk}
 
 -- ---- what the faults say of numbers
@@ -38,17 +38,17 @@ width-small w = go (eqb w 32) refl (eqb w 64) refl
     go false e true f z = omega (arith, eqb-true w 64 f)
     go false e false f z = absurd (true≢false (sym z))
 
-sum-few : (n : ℕ) (t : Record) → n ≤ 64 → sumFault n t ≡ 0 → Few t
-sum-few n t h z =
+record-few : (n : ℕ) (t : Record) → n ≤ 64 → recordFault n t ≡ 0 → Few t
+record-few n t h z =
     let m = names-of n t z in
-    record { x = omega (arith, m .x-in); a = omega (arith, m .a-in); b = omega (arith, m .b-in) }
+    record { x = omega (arith, first-in n t m); a = omega (arith, second-in n t m); b = omega (arith, third-in n t m); third = m .third; kind = m .kind }
 
 -- ---- the step at each kind of line
 begins : start ≡ after [] 0 0 0
 unfolding countOf
 begins = refl
 
-head-next : (rest : List ℕ) (w m : ℕ) → length (headText w m ++ (feed ∷ rest)) ≤ 8192 → headFault w m ≡ 0 → nextOf (headText w m ++ (feed ∷ rest)) start ≡ Head w m (after (headText w m ++ (feed ∷ [])) w 0 0)
+head-next : (rest : List ℕ) (w m : ℕ) → length (headText w m ++ (feed ∷ rest)) ≤ 8192 → headFault w m ≡ 0 → nextOf (headText w m ++ (feed ∷ rest)) start ≡ Step.Head w m (after (headText w m ++ (feed ∷ [])) w 0 0)
 unfolding admitted headStep
 head-next rest w m h z =
     let g = good-head w m z in
@@ -56,17 +56,17 @@ head-next rest w m h z =
     ∙ rw (next-line [] (headText w m) rest 0 0 0 (head-free w m) h, head-back 0 w m (width-small w (g .known)) (omega (arith, g .few)), eq-eqb (headFault w m) 0 z)
 
 module _ (text read rest : List ℕ) (w i j : ℕ) (h : length text ≤ 8192) (p : 0 < length read) where
-  cell-next : (I : Interval) → text ≡ read ++ (cellText w I ++ (feed ∷ rest)) → cellFault w I ≡ 0 → i < 64 → nextOf text (after read w i j) ≡ Cell I (after (read ++ (cellText w I ++ (feed ∷ []))) w (i + 1) j)
+  cell-next : (I : Interval) → text ≡ read ++ (cellText w I ++ (feed ∷ rest)) → cellFault w I ≡ 0 → i < 64 → nextOf text (after read w i j) ≡ Step.Cell I (after (read ++ (cellText w I ++ (feed ∷ []))) w (i + 1) j)
   unfolding admitted cellStep
   cell-next I e z l =
       rw (e, next-line read (cellText w I) rest w i j (cell-free w I) (rw e at h), cell-back (length read) w I p (cell-small w I z), eq-eqb (cellFault w I) 0 z, lt-ltb i 64 l)
 
-  sum-next : (t : Record) → text ≡ read ++ (sumText t ++ (feed ∷ rest)) → Few t → sumFault i t ≡ 0 → j < 128 → nextOf text (after read w i j) ≡ Sum t (after (read ++ (sumText t ++ (feed ∷ []))) w i (j + 1))
-  unfolding admitted sumStep
-  sum-next t e f z l =
-      rw (e, next-line read (sumText t) rest w i j (sum-free t) (rw e at h), sum-back (length read) w t p f, eq-eqb (sumFault i t) 0 z, lt-ltb j 128 l)
+  record-next : (t : Record) → text ≡ read ++ (recordText t ++ (feed ∷ rest)) → Few t → recordFault i t ≡ 0 → j < 128 → nextOf text (after read w i j) ≡ Step.Record t (after (read ++ (recordText t ++ (feed ∷ []))) w i (j + 1))
+  unfolding admitted recordStep
+  record-next t e f z l =
+      rw (e, next-line read (recordText t) rest w i j (record-free t) (rw e at h), record-back (length read) w t p f, eq-eqb (recordFault i t) 0 z, lt-ltb j 128 l)
 
-end-next : (text : List ℕ) (w i j : ℕ) → length text ≤ 8192 → 0 < length text → nextOf text (after text w i j) ≡ End
+end-next : (text : List ℕ) (w i j : ℕ) → length text ≤ 8192 → 0 < length text → nextOf text (after text w i j) ≡ Step.End
 unfolding nextOf indexOf
 end-next text w i j h p =
     let l : length text ≤ length text = omega arith in
@@ -83,7 +83,7 @@ unfolding textLines
 lines-long line [] = omega arith
 lines-long line (v ∷ vs) = simp length-append (omega (arith, lines-long line vs))
 
--- ---- the text of cells and sums that the test lets pass
+-- ---- the text of cells and records that the test lets pass
 module _ (w m : ℕ) (cs : List Interval) (ts : List Record) (tested : testOfLists w m cs ts ≡ Done) where
   g : Passing w m cs ts
   g = lists-passing w m cs ts tested
@@ -94,17 +94,17 @@ module _ (w m : ℕ) (cs : List Interval) (ts : List Record) (tested : testOfLis
   abbrev headed : List ℕ
   headed = headText w m ++ (feed ∷ [])
 
-  few : (t : Record) → sumFault (length cs) t ≡ 0 → Few t
-  few t z = sum-few (length cs) t (g .few-cells) z
+  few : (t : Record) → recordFault (length cs) t ≡ 0 → Few t
+  few t z = record-few (length cs) t (g .few-cells) z
 
   fits : length text ≤ 8192
   fits =
       let d = good-head w m (g .head) in
       let a = head-length w m (width-small w (d .known)) (omega (arith, d .few)) in
       let b = lines-short (cellText w) (cellFault w) (λ v z. cell-length w v) cs (g .cells) in
-      let c = lines-short sumText (sumFault (length cs)) (λ v z. omega (arith, sum-length v (few v z))) ts (g .sums) in
+      let c = lines-short recordText (recordFault (length cs)) (λ v z. omega (arith, record-length v (few v z))) ts (g .records) in
       let e = g .few-cells in
-      let f = g .few-sums in
+      let f = g .few-records in
       simp (length-append, length-append) (omega arith)
 
   one-cell :
@@ -116,20 +116,20 @@ module _ (w m : ℕ) (cs : List Interval) (ts : List Record) (tested : testOfLis
       let f = rw e at (g .cells) in
       let z = faultless-next (cellFault w) before I later f in
       let k : length before < 64 = omega (arith, g .few-cells, ap length e ∙ length-append before (I ∷ later)) in
-      let q : Passing w m before [] = record { head = g .head; few-cells = omega arith; few-sums = omega arith; cells = faultless-front (cellFault w) before (I ∷ later) f; sums = tt } in
+      let q : Passing w m before [] = record { head = g .head; few-cells = omega arith; few-records = omega arith; cells = faultless-front (cellFault w) before (I ∷ later) f; records = tt } in
       rw (cell-next text read rest w (length before) 0 fits p I t z k, add-cell w m before [] q I z k, length-more before I)
 
-  one-sum :
-      (before : List Record) (r : Record) (later : List Record) (read rest : List ℕ) (n : ℕ) → ts ≡ before ++ (r ∷ later) → text ≡ read ++ (sumText r ++ (feed ∷ rest)) → 0 < length read →
+  one-record :
+      (before : List Record) (r : Record) (later : List Record) (read rest : List ℕ) (n : ℕ) → ts ≡ before ++ (r ∷ later) → text ≡ read ++ (recordText r ++ (feed ∷ rest)) → 0 < length read →
       readFrom (suc n) text (after read w (length cs) (length before)) (built w m cs before)
-      ≡ readFrom n text (after (read ++ (sumText r ++ (feed ∷ []))) w (length cs) (length (before ++ (r ∷ [])))) (built w m cs (before ++ (r ∷ [])))
+      ≡ readFrom n text (after (read ++ (recordText r ++ (feed ∷ []))) w (length cs) (length (before ++ (r ∷ [])))) (built w m cs (before ++ (r ∷ [])))
   unfolding readFrom
-  one-sum before r later read rest n e t p =
-      let f = rw e at (g .sums) in
-      let z = faultless-next (sumFault (length cs)) before r later f in
-      let k : length before < 128 = omega (arith, g .few-sums, ap length e ∙ length-append before (r ∷ later)) in
-      let q : Passing w m cs before = record { head = g .head; few-cells = g .few-cells; few-sums = omega arith; cells = g .cells; sums = faultless-front (sumFault (length cs)) before (r ∷ later) f } in
-      rw (sum-next text read rest w (length cs) (length before) fits p r t (few r z) z k, add-sum w m cs before q r z k, length-more before r)
+  one-record before r later read rest n e t p =
+      let f = rw e at (g .records) in
+      let z = faultless-next (recordFault (length cs)) before r later f in
+      let k : length before < 128 = omega (arith, g .few-records, ap length e ∙ length-append before (r ∷ later)) in
+      let q : Passing w m cs before = record { head = g .head; few-cells = g .few-cells; few-records = omega arith; cells = g .cells; records = faultless-front (recordFault (length cs)) before (r ∷ later) f } in
+      rw (record-next text read rest w (length cs) (length before) fits p r t (few r z) z k, add-record w m cs before q r z k, length-more before r)
 
   -- the steps after the head: a record each, and the end
   abbrev spare : ℕ
@@ -138,13 +138,13 @@ module _ (w m : ℕ) (cs : List Interval) (ts : List Record) (tested : testOfLis
   steps : length text ≡ length cs + (length ts + suc spare)
   steps =
       let a = lines-long (cellText w) cs in
-      let b = lines-long sumText ts in
-      let c : length text ≡ length (headText w m) + suc (length (textLines (cellText w) cs) + length (textLines sumText ts)) = simp (length-append, length-append) in
+      let b = lines-long recordText ts in
+      let c : length text ≡ length (headText w m) + suc (length (textLines (cellText w) cs) + length (textLines recordText ts)) = simp (length-append, length-append) in
       omega arith
 
   first : readFrom (suc (length text)) text start (blank 0 0) ≡ readFrom (length text) text (after headed w 0 0) (built w m [] [])
   unfolding readFrom headText
-  first = rw (head-next (textLines (cellText w) cs ++ textLines sumText ts) w m fits (g .head), sym (opened w m (headFault w m) refl (g .head)))
+  first = rw (head-next (textLines (cellText w) cs ++ textLines recordText ts) w m fits (g .head), sym (opened w m (headFault w m) refl (g .head)))
 
   last : readFrom (suc spare) text (after text w (length cs) (length ts)) (built w m cs ts) ≡ record { sheet = built w m cs ts; answer = Done }
   unfolding readFrom
@@ -154,24 +154,24 @@ module _ (w m : ℕ) (cs : List Interval) (ts : List Record) (tested : testOfLis
   unfolding readOf
   lists-back =
       let cells = textLines (cellText w) cs in
-      let sums = textLines sumText ts in
+      let records = textLines recordText ts in
       let p : 0 < length headed = simp length-append (omega arith) in
       let q : 0 < length (headed ++ cells) = simp (length-append, length-append) (omega arith) in
-      let a : text ≡ headed ++ (cells ++ sums) = sym (append-assoc (headText w m) (feed ∷ []) (cells ++ sums)) in
-      let b : (headed ++ cells) ++ sums ≡ text = append-assoc headed cells sums ∙ sym a in
-      let c : text ≡ (headed ++ cells) ++ (sums ++ []) = sym b ∙ rw (append-nil sums) in
+      let a : text ≡ headed ++ (cells ++ records) = sym (append-assoc (headText w m) (feed ∷ []) (cells ++ records)) in
+      let b : (headed ++ cells) ++ records ≡ text = append-assoc headed cells records ∙ sym a in
+      let c : text ≡ (headed ++ cells) ++ (records ++ []) = sym b ∙ rw (append-nil records) in
       first
       ∙ ap (λ (n : ℕ). readFrom n text (after headed w 0 0) (built w m [] [])) steps
-      ∙ walk (cellText w) text cs (λ r l. after r w (length l) 0) (λ l. built w m l []) one-cell [] cs headed sums (length ts + suc spare) refl a p
-      ∙ walk sumText text ts (λ r l. after r w (length cs) (length l)) (λ l. built w m cs l) one-sum [] ts (headed ++ cells) [] (suc spare) refl c q
+      ∙ walk (cellText w) text cs (λ r l. after r w (length l) 0) (λ l. built w m l []) one-cell [] cs headed records (length ts + suc spare) refl a p
+      ∙ walk recordText text ts (λ r l. after r w (length cs) (length l)) (λ l. built w m cs l) one-record [] ts (headed ++ cells) [] (suc spare) refl c q
       ∙ ap (λ (r : List ℕ). readFrom (suc spare) text (after r w (length cs) (length ts)) (built w m cs ts)) b
       ∙ last
 
 -- ---- a kept sheet that its own test lets pass reads back in its written form, each end in its one pattern and unused places zero
-pub round-trip : (s : Sheet) → length (s .cells) ≡ 64 → length (s .sums) ≡ 128 → testOf s ≡ Done → readOf (textOf s) ≡ record { sheet = tidied s; answer = Done }
+pub round-trip : (s : Sheet) → length (s .cells) ≡ 64 → length (s .records) ≡ 128 → testOf s ≡ Done → readOf (textOf s) ≡ record { sheet = tidied s; answer = Done }
 unfolding textOf tidied
 round-trip s a b t =
-    let p = all-good (s .width) (s .limit) (s .«cell_count») (s .«sum_count») (usedCells s) (usedSums s) t in
+    let p = all-good (s .width) (s .limit) (s .«cell_count») (s .«record_count») (usedCells s) (usedRecords s) t in
     let c : length (usedCells s) ≡ s .«cell_count» = length-take-le (s .«cell_count») (s .cells) (omega (arith, p .few-cells)) in
-    let d : length (usedSums s) ≡ s .«sum_count» = length-take-le (s .«sum_count») (s .sums) (omega (arith, p .few-sums)) in
-    lists-back (s .width) (s .limit) (usedCells s) (usedSums s) (rw (c, d) t) ∙ rw (c, d)
+    let d : length (usedRecords s) ≡ s .«record_count» = length-take-le (s .«record_count») (s .records) (omega (arith, p .few-records)) in
+    lists-back (s .width) (s .limit) (usedCells s) (usedRecords s) (rw (c, d) t) ∙ rw (c, d)

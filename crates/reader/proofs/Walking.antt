@@ -19,7 +19,7 @@ use Rattle.reader.proofs.Fields.{Free, index-free, before-free, count-f
 
 -- the cursor after some text, with what it keeps
 abbrev pub after : List ℕ → ℕ → ℕ → ℕ → Cursor
-after read w i j = record { at = length read; line = countOf feed read + 1; width = w; «cell_count» = i; «sum_count» = j }
+after read w i j = record { at = length read; line = countOf feed read + 1; width = w; «cell_count» = i; «record_count» = j }
 
 -- ---- one line
 -- the position after it, and the line

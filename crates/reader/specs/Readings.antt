@@ -7,12 +7,12 @@ use Rattle.arith.specs.declared.refusal.Refusal.{Refusal}
 use Rattle.sheet.specs.declared.kept.Sheet.{Sheet}
 use Rattle.sheet.specs.declared.kept.Kept.{Kept}
 use Rattle.sheet.specs.declared.kept.Answer.the-variants as Answer
-use Rattle.sheet.specs.Sheets.{blank, openOf, addCellOf, addSumOf}
+use Rattle.sheet.specs.Sheets.{blank, openOf, addCellOf, addRecordOf}
 use Rattle.sheet.specs.Replies.{keptTold}
 use Rattle.reader.specs.Steps.{start, nextOf, cursorAfter, lineNumber}
 use Rattle.reader.specs.declared.cursor.Cursor.{Cursor}
 use Rattle.reader.specs.declared.cursor.Step.{Step}
-use Rattle.reader.specs.declared.cursor.Step.the-variants.{Head, Cell, Sum, End, Refused}
+use Rattle.reader.specs.declared.cursor.Step.the-variants.{Head, Cell, Record, End, Refused}
 
 -- a refused text leaves the blank sheet; its place is 01's line of the record refused (`refused-line`, proofs/Placing)
 abbrev pub refusedText : Refusal → Kept
@@ -22,7 +22,7 @@ refusedText r = record { sheet = blank 0 0; answer = Answer.Refused r }
 abbrev pub followed : (Cursor → Sheet → Kept) → Sheet → Step → Kept
 followed go s (Head w m c) = go c (openOf w m .sheet)
 followed go s (Cell I c) = go c (addCellOf s I .sheet)
-followed go s (Sum t c) = go c (addSumOf s t .sheet)
+followed go s (Record t c) = go c (addRecordOf s t .sheet)
 followed go s End = record { sheet = s; answer = Answer.Done }
 followed go s (Refused r) = refusedText r
 
@@ -44,7 +44,7 @@ BlankIfRefused k = (keptTold k .number ≡ 0 → ⊥) → k .sheet ≡ blank 0 0
 abbrev pub grown : Step → Sheet → Sheet
 grown (Head w m c) s = openOf w m .sheet
 grown (Cell I c) s = addCellOf s I .sheet
-grown (Sum t c) s = addSumOf s t .sheet
+grown (Record t c) s = addRecordOf s t .sheet
 grown End s = s
 grown (Refused r) s = s
 
@@ -57,7 +57,7 @@ sheetAfter (suc n) text = grown (nextOf text (cursorAfter n text)) (sheetAfter n
 abbrev pub Taken : Sheet → Step → Type 0
 Taken s (Head w m c) = openOf w m .answer ≡ Answer.Done
 Taken s (Cell I c) = addCellOf s I .answer ≡ Answer.Done
-Taken s (Sum t c) = addSumOf s t .answer ≡ Answer.Done
+Taken s (Record t c) = addRecordOf s t .answer ≡ Answer.Done
 Taken s End = Unit {0}
 Taken s (Refused r) = Unit {0}
 
@@ -65,7 +65,7 @@ Taken s (Refused r) = Unit {0}
 abbrev pub EndsWith : Sheet → Step → Kept → Type 0
 EndsWith s (Head w m c) k = ⊥
 EndsWith s (Cell I c) k = ⊥
-EndsWith s (Sum t c) k = ⊥
+EndsWith s (Record t c) k = ⊥
 EndsWith s End k = k ≡ record { sheet = s; answer = Answer.Done }
 EndsWith s (Refused r) k = k ≡ refusedText r
 

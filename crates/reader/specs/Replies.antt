@@ -7,7 +7,7 @@ use lib.Dec.{eqb, ltb}
 use lib.ListN.{length, drop}
 use Rattle.arith.specs.Answers.{Reply, gives, refuses, twoEnds}
 use Rattle.arith.specs.Replies.{Test, replyAfter}
-use Rattle.sheet.specs.Faults.{headFault, cellFault, sumFault}
+use Rattle.sheet.specs.Faults.{headFault, cellFault, recordFault}
 use Rattle.sheet.specs.Replies.{testAt, faultless}
 use Rattle.reader.specs.Bytes.{indexOf, before}
 use Rattle.reader.specs.Lines.{feed, lineOf}
@@ -15,29 +15,29 @@ use Rattle.reader.specs.declared.line.Line.{Line}
 use Rattle.reader.specs.declared.line.Line.the-variants as Line
 use Rattle.reader.specs.declared.cursor.Cursor.{Cursor}
 use Rattle.reader.specs.declared.cursor.Step.{Step}
-use Rattle.reader.specs.declared.cursor.Step.the-variants.{Head, Cell, Sum, End, Refused}
+use Rattle.reader.specs.declared.cursor.Step.the-variants.{Head, Cell, Record, End, Refused}
 
 -- what each case tells: the fields of a record, nothing at the end, or the refusal
 abbrev pub stepTold : Step → Reply ℕ
 stepTold (Head w m c) = gives (w ∷ m ∷ [])
 stepTold (Cell I c) = gives (twoEnds I)
-stepTold (Sum t c) = gives (t .x ∷ t .a ∷ t .b ∷ [])
+stepTold (Record t c) = gives (t .kind ∷ t .x ∷ t .a ∷ t .b ∷ [])
 stepTold End = gives []
 stepTold (Refused r) = refuses r
 
 -- ---- a line at the cursor; a refusal's place is the cursor's line
--- 4; and after it 1, 7 for a head, 2, 3, 10 for a cell, 5, 6, 10 for a sum
+-- 4; and after it 1, 7 for a head, 2, 3, 10 for a cell, 5, 6, 10 for a record over cells
 abbrev pub lineTests : Line → Cursor → List Test
 lineTests (Line.Head w m) c = faultless (headFault w m) (c .line) ∷ []
 lineTests (Line.Cell I) c = faultless (cellFault (c .width) I) (c .line) ∷ testAt (ltb (c .«cell_count») 64) 10 (c .line) ∷ []
-lineTests (Line.Sum t) c = faultless (sumFault (c .«cell_count») t) (c .line) ∷ testAt (ltb (c .«sum_count») 128) 10 (c .line) ∷ []
+lineTests (Line.Record t) c = faultless (recordFault (c .«cell_count») t) (c .line) ∷ testAt (ltb (c .«record_count») 128) 10 (c .line) ∷ []
 lineTests Line.Malformed c = testAt false 4 (c .line) ∷ []
 
 -- its fields
 abbrev pub lineValues : Line → List ℕ
 lineValues (Line.Head w m) = w ∷ m ∷ []
 lineValues (Line.Cell I) = twoEnds I
-lineValues (Line.Sum t) = t .x ∷ t .a ∷ t .b ∷ []
+lineValues (Line.Record t) = t .kind ∷ t .x ∷ t .a ∷ t .b ∷ []
 lineValues Line.Malformed = []
 
 -- ---- a text

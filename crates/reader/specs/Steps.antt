@@ -6,7 +6,7 @@ use lib.ListN.{length, take, drop}
 use lib.Dec.{eqb, ltb}
 use Rattle.arith.specs.declared.interval.Interval.{Interval}
 use Rattle.sheet.specs.declared.kept.Record.{Record}
-use Rattle.sheet.specs.Faults.{headFault, cellFault, sumFault}
+use Rattle.sheet.specs.Faults.{headFault, cellFault, recordFault}
 use Rattle.reader.specs.Bytes.{indexOf, before, countOf}
 use Rattle.reader.specs.Lines.{feed, lineOf}
 use Rattle.reader.specs.declared.line.Line.{Line}
@@ -14,22 +14,22 @@ use Rattle.reader.specs.declared.line.Line.the-variants as Line
 use Rattle.reader.specs.declared.cursor.Cursor.{Cursor}
 use Rattle.reader.specs.declared.cursor.Moved.{Moved}
 use Rattle.reader.specs.declared.cursor.Step.{Step}
-use Rattle.reader.specs.declared.cursor.Step.the-variants.{Head, Cell, Sum, End, Refused}
+use Rattle.reader.specs.declared.cursor.Step.the-variants as Step
 
 -- the cursor at the start of a text
 abbrev pub start : Cursor
-start = record { at = 0; line = 1; width = 0; «cell_count» = 0; «sum_count» = 0 }
+start = record { at = 0; line = 1; width = 0; «cell_count» = 0; «record_count» = 0 }
 
 -- a refusal, with the line as its place
 abbrev pub refusedAt : ℕ → ℕ → Step
-refusedAt n line = Refused (record { number = n; place = line })
+refusedAt n line = Step.Refused (record { number = n; place = line })
 
 -- ---- a record whose line is well formed; the cursor c stands past the line, with the record not yet counted
--- a head, in the order of opening: 1, 7. Cells and sums are counted from it on
+-- a head, in the order of opening: 1, 7. Cells and records are counted from it on
 unfoldable pub headStep : ℕ → ℕ → ℕ → Cursor → Step
 headStep w m line c =
     cond (eqb (headFault w m) 0)
-    (Head w m (record { at = c .at; line = c .line; width = w; «cell_count» = 0; «sum_count» = 0 }))
+    (Step.Head w m (record { at = c .at; line = c .line; width = w; «cell_count» = 0; «record_count» = 0 }))
     (refusedAt (headFault w m) line)
 
 -- a cell, in the order of adding: 2, 3, 10
@@ -37,24 +37,24 @@ unfoldable pub cellStep : Interval → ℕ → Cursor → Step
 cellStep I line c =
     cond (eqb (cellFault (c .width) I) 0)
     (cond (ltb (c .«cell_count») 64)
-    (Cell I (record { at = c .at; line = c .line; width = c .width; «cell_count» = c .«cell_count» + 1; «sum_count» = c .«sum_count» }))
+    (Step.Cell I (record { at = c .at; line = c .line; width = c .width; «cell_count» = c .«cell_count» + 1; «record_count» = c .«record_count» }))
     (refusedAt 10 line))
     (refusedAt (cellFault (c .width) I) line)
 
--- a sum, in the order of adding: 5, 6, 10
-unfoldable pub sumStep : Record → ℕ → Cursor → Step
-sumStep s line c =
-    cond (eqb (sumFault (c .«cell_count») s) 0)
-    (cond (ltb (c .«sum_count») 128)
-    (Sum s (record { at = c .at; line = c .line; width = c .width; «cell_count» = c .«cell_count»; «sum_count» = c .«sum_count» + 1 }))
+-- a record over cells, in the order of adding: 5, 6, 10; its kind is that of its word, so there is no 4
+unfoldable pub recordStep : Record → ℕ → Cursor → Step
+recordStep t line c =
+    cond (eqb (recordFault (c .«cell_count») t) 0)
+    (cond (ltb (c .«record_count») 128)
+    (Step.Record t (record { at = c .at; line = c .line; width = c .width; «cell_count» = c .«cell_count»; «record_count» = c .«record_count» + 1 }))
     (refusedAt 10 line))
-    (refusedAt (sumFault (c .«cell_count») s) line)
+    (refusedAt (recordFault (c .«cell_count») t) line)
 
 -- ---- a line: 4, and after it the refusals of its record
 unfoldable pub admitted : Line → ℕ → Cursor → Step
 admitted (Line.Head w m) line c = headStep w m line c
 admitted (Line.Cell I) line c = cellStep I line c
-admitted (Line.Sum s) line c = sumStep s line c
+admitted (Line.Record t) line c = recordStep t line c
 admitted Line.Malformed line c = refusedAt 4 line
 
 -- the line after a line; the greatest number that a cursor can keep is stayed at
@@ -63,7 +63,7 @@ lineAfter line = cond (eqb line 18446744073709551615) line (line + 1)
 
 -- the cursor past a line of n bytes and its line feed
 abbrev pub pastLine : ℕ → Cursor → Cursor
-pastLine n c = record { at = c .at + n + 1; line = lineAfter (c .line); width = c .width; «cell_count» = c .«cell_count»; «sum_count» = c .«sum_count» }
+pastLine n c = record { at = c .at + n + 1; line = lineAfter (c .line); width = c .width; «cell_count» = c .«cell_count»; «record_count» = c .«record_count» }
 
 -- ---- a text
 -- with `ahead` still to be read: a line, or where no line feed is left, the end: 4 for bytes without a line feed and for a text without a head. A refusal's line is the one that the cursor keeps
@@ -71,7 +71,7 @@ abbrev pub stepAt : List ℕ → Cursor → Step
 stepAt ahead c =
     cond (ltb (indexOf feed ahead) (length ahead))
     (admitted (lineOf (c .at) (c .width) (before feed ahead)) (c .line) (pastLine (indexOf feed ahead) c))
-    (cond (eqb (length ahead) 0) (cond (eqb (c .at) 0) (refusedAt 4 (c .line)) End) (refusedAt 4 (c .line)))
+    (cond (eqb (length ahead) 0) (cond (eqb (c .at) 0) (refusedAt 4 (c .line)) Step.End) (refusedAt 4 (c .line)))
 
 -- what stands at the cursor: 8, then the line there
 unfoldable pub nextOf : List ℕ → Cursor → Step
@@ -79,11 +79,11 @@ nextOf text c = cond (ltb 8192 (length text)) (refusedAt 8 0) (stepAt (drop (c .
 
 -- the cursor after a step: a refused record and the end are stayed at
 abbrev pub past : Step → Cursor → Cursor
-past (Head w m next) c = next
-past (Cell I next) c = next
-past (Sum t next) c = next
-past End c = c
-past (Refused r) c = c
+past (Step.Head w m next) c = next
+past (Step.Cell I next) c = next
+past (Step.Record t next) c = next
+past Step.End c = c
+past (Step.Refused r) c = c
 
 -- the cursor after the record at the cursor
 unfoldable pub afterOf : List ℕ → Cursor → Cursor

@@ -1,6 +1,6 @@
 // The cursor: a position in a text with what the reader keeps, and the record that stands there.
 ghost use mathlib.Core.Path.{_≡_};
-ghost use Rattle.reader.specs.Steps.{start, refusedAt, headStep, cellStep, sumStep, admitted, lineAfter, nextOf, past, advanceOf, cursorAfter, recordAt};
+ghost use Rattle.reader.specs.Steps.{start, refusedAt, headStep, cellStep, recordStep, admitted, lineAfter, nextOf, past, advanceOf, cursorAfter, recordAt};
 ghost use Rattle.reader.specs.Replies.{stepTold, replyNext, Tells};
 use crate::bytes::before;
 use crate::bytes::find;
@@ -11,16 +11,16 @@ use arith::interval::Interval;
 use arith::refusal::Refusal;
 use sheet::fault::cell_fault;
 use sheet::fault::head_fault;
-use sheet::fault::sum_fault;
+use sheet::fault::record_fault;
 use sheet::kept::Record;
 
-// Where the next record stands and in which line, the width that the head gave, and the counts of cells and sums so far.
+// Where the next record stands and in which line, the width that the head gave, and the counts of cells and records so far.
 pub struct Cursor {
     pub at: usize,
     pub line: u64,
     pub width: u64,
     pub cell_count: u64,
-    pub sum_count: u64,
+    pub record_count: u64,
 }
 
 // What stands at a cursor: a record with the cursor after it, the end of the text, or a refusal.
@@ -34,8 +34,8 @@ pub enum Step {
         cell: Interval,
         next: Cursor,
     },
-    Sum {
-        sum: Record,
+    Record {
+        record: Record,
         next: Cursor,
     },
     End,
@@ -58,7 +58,7 @@ impl Cursor {
             line: 1,
             width: 0,
             cell_count: 0,
-            sum_count: 0,
+            record_count: 0,
         }
     }
 }
@@ -99,7 +99,7 @@ fn head_step(width: u64, limit: u64, line: u64, c: Cursor) -> Step
             line: c.line,
             width,
             cell_count: 0,
-            sum_count: 0,
+            record_count: 0,
         },
     }
 }
@@ -122,30 +122,30 @@ fn cell_step(cell: Interval, line: u64, c: Cursor) -> Step
             line: c.line,
             width: c.width,
             cell_count: c.cell_count + 1,
-            sum_count: c.sum_count,
+            record_count: c.record_count,
         },
     }
 }
 
-// A sum in a line, in the order of adding: refusals 5, 6, 10. Past its line stands the cursor c.
-fn sum_step(sum: Record, line: u64, c: Cursor) -> Step
-    ensures { λ r. ⌜ r ≡ sumStep sum line c ⌝ }
+// A sum, diff or neg in a line, in the order of adding: refusals 5, 6, 10. Past its line stands the cursor c.
+fn record_step(record: Record, line: u64, c: Cursor) -> Step
+    ensures { λ r. ⌜ r ≡ recordStep «record» line c ⌝ }
 {
-    let fault = sum_fault(c.cell_count, sum);
+    let fault = record_fault(c.cell_count, record);
     if fault != 0 {
         return refuse_at(fault, line);
     }
-    if 128 <= c.sum_count {
+    if 128 <= c.record_count {
         return refuse_at(10, line);
     }
-    Step::Sum {
-        sum,
+    Step::Record {
+        record,
         next: Cursor {
             at: c.at,
             line: c.line,
             width: c.width,
             cell_count: c.cell_count,
-            sum_count: c.sum_count + 1,
+            record_count: c.record_count + 1,
         },
     }
 }
@@ -157,7 +157,7 @@ fn admit(l: Line, line: u64, c: Cursor) -> Step
     match l {
         Line::Head { width, limit } => head_step(width, limit, line, c),
         Line::Cell(cell) => cell_step(cell, line, c),
-        Line::Sum(sum) => sum_step(sum, line, c),
+        Line::Record(record) => record_step(record, line, c),
         Line::Malformed => refuse_at(4, line),
     }
 }
@@ -180,7 +180,7 @@ pub fn next(text: &[u8], c: Cursor) -> Step
             line: line_after(c.line),
             width: c.width,
             cell_count: c.cell_count,
-            sum_count: c.sum_count,
+            record_count: c.record_count,
         };
         return admit(l, c.line, past);
     }
@@ -200,7 +200,7 @@ fn past(step: Step, c: Cursor) -> Cursor
     match step {
         Step::Head { next, .. } => next,
         Step::Cell { next, .. } => next,
-        Step::Sum { next, .. } => next,
+        Step::Record { next, .. } => next,
         Step::End => c,
         Step::Refused(_) => c,
     }

@@ -1,6 +1,6 @@
 // One line of a text, without its line feed: what its fields say, or that it is malformed, unknown or misplaced.
 ghost use mathlib.Core.Path.{_≡_};
-ghost use Rattle.reader.specs.Lines.{headFrom, cellFrom, sumFrom, headIn, cellIn, sumIn, lineOf};
+ghost use Rattle.reader.specs.Lines.{headFrom, cellFrom, tripleFrom, pairFrom, headIn, cellIn, tripleIn, pairIn, recordIn, lineOf};
 use crate::bytes::after;
 use crate::bytes::before;
 use crate::bytes::same;
@@ -14,7 +14,7 @@ use sheet::kept::Record;
 pub(crate) enum Line {
     Head { width: u64, limit: u64 },
     Cell(Interval),
-    Sum(Record),
+    Record(Record),
     Malformed,
 }
 
@@ -44,9 +44,9 @@ fn cell_from(l: Number, h: Number) -> Line
     Line::Cell(Interval { low, high })
 }
 
-// A sum of the cell numbers of x, a, b; malformed where one of them is no number.
-fn sum_from(i: Number, j: Number, k: Number) -> Line
-    ensures { λ r. ⌜ r ≡ sumFrom i j k ⌝ }
+// A sum or a diff, by its kind, of the cell numbers of x, a, b; malformed where one of them is no number.
+fn triple_from(kind: u64, i: Number, j: Number, k: Number) -> Line
+    ensures { λ r. ⌜ r ≡ tripleFrom kind i j k ⌝ }
 {
     let Number::Value(x) = i else {
         return Line::Malformed;
@@ -57,7 +57,25 @@ fn sum_from(i: Number, j: Number, k: Number) -> Line
     let Number::Value(b) = k else {
         return Line::Malformed;
     };
-    Line::Sum(Record { x, a, b })
+    Line::Record(Record { kind, x, a, b })
+}
+
+// A neg of the cell numbers of x and y; malformed where one of them is no number.
+fn pair_from(i: Number, j: Number) -> Line
+    ensures { λ r. ⌜ r ≡ pairFrom i j ⌝ }
+{
+    let Number::Value(x) = i else {
+        return Line::Malformed;
+    };
+    let Number::Value(a) = j else {
+        return Line::Malformed;
+    };
+    Line::Record(Record {
+        kind: 2,
+        x,
+        a,
+        b: 0,
+    })
 }
 
 // The fields after the word `sheet`.
@@ -78,18 +96,43 @@ fn cell_in(width: u64, fields: &[u8]) -> Line
     cell_from(low, high)
 }
 
-// The fields after the word `sum`.
-fn sum_in(fields: &[u8]) -> Line
-    ensures { λ r. ⌜ r ≡ sumIn (now (fields .entry)) ⌝ }
+// The fields after the word `sum` or `diff`.
+fn triple_in(kind: u64, fields: &[u8]) -> Line
+    ensures { λ r. ⌜ r ≡ tripleIn kind (now (fields .entry)) ⌝ }
 {
     let more = after(fields, 9);
     let x = numeral(before(fields, 9));
     let a = numeral(before(more, 9));
     let b = numeral(after(more, 9));
-    sum_from(x, a, b)
+    triple_from(kind, x, a, b)
 }
 
-// A line by its first field: a head at the start of the text, a cell or a sum anywhere else.
+// The fields after the word `neg`.
+fn pair_in(fields: &[u8]) -> Line
+    ensures { λ r. ⌜ r ≡ pairIn (now (fields .entry)) ⌝ }
+{
+    let x = numeral(before(fields, 9));
+    let y = numeral(after(fields, 9));
+    pair_from(x, y)
+}
+
+// A sum, diff or neg by its word.
+fn record_in(word: &[u8], fields: &[u8]) -> Line
+    ensures { λ r. ⌜ r ≡ recordIn (now (word .entry)) (now (fields .entry)) ⌝ }
+{
+    if same(word, b"sum") {
+        return triple_in(0, fields);
+    }
+    if same(word, b"diff") {
+        return triple_in(1, fields);
+    }
+    if same(word, b"neg") {
+        return pair_in(fields);
+    }
+    Line::Malformed
+}
+
+// A line by its first field: a head at the start of the text, a cell or a record over cells anywhere else.
 pub(crate) fn parse(at: usize, width: u64, line: &[u8]) -> Line
     ensures { λ r. ⌜ r ≡ lineOf at width (now (line .entry)) ⌝ }
 {
@@ -104,8 +147,5 @@ pub(crate) fn parse(at: usize, width: u64, line: &[u8]) -> Line
     if same(word, b"cell") {
         return cell_in(width, fields);
     }
-    if same(word, b"sum") {
-        return sum_in(fields);
-    }
-    Line::Malformed
+    record_in(word, fields)
 }

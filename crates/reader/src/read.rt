@@ -6,7 +6,7 @@ use crate::cursor::Cursor;
 use crate::cursor::Step;
 use crate::cursor::next;
 use sheet::adding::add_cell;
-use sheet::adding::add_sum;
+use sheet::adding::add_record;
 use sheet::kept::Answer;
 use sheet::kept::Kept;
 use sheet::kept::Sheet;
@@ -39,8 +39,8 @@ pub fn read(text: &[u8]) -> Kept
                 sheet = kept.sheet;
                 cursor = next;
             }
-            Step::Sum { sum, next } => {
-                let kept = add_sum(sheet, sum);
+            Step::Record { record, next } => {
+                let kept = add_record(sheet, record);
                 sheet = kept.sheet;
                 cursor = next;
             }

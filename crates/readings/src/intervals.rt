@@ -119,6 +119,14 @@ fn read_mirror(width: u64, i: Interval, expected: Reply) {
     conclude(width, image_reply(i.mirror(width)), expected);
 }
 
+fn read_mirror_ends(width: u64, i: Interval, expected: Reply) {
+    put_text(b"mirror of the ends");
+    put_number(width);
+    put_interval(width, i);
+    let m = i.mirror_ends(width);
+    conclude(width, span(m.low, m.high), expected);
+}
+
 fn read_canonical(width: u64, i: Interval, expected: Reply) {
     put_text(b"canonical");
     put_number(width);
@@ -225,9 +233,25 @@ fn read_canonicals() {
     read_canonical(32, Interval::new(0x00000001, 0x80000000), refused(3));
 }
 
+// The mirror without a test: of both zeros, and of an interval out of order.
+fn read_mirrored_ends() {
+    read_mirror_ends(
+        64,
+        Interval::new(0xBFF0000000000000, 0x4000000000000000),
+        span(0xC000000000000000, 0x3FF0000000000000),
+    );
+    read_mirror_ends(32, Interval::new(0x80000000, 0), span(0, 0));
+    read_mirror_ends(
+        32,
+        Interval::new(0x3F800000, 0xFF7FFFFF),
+        span(0x7F7FFFFF, 0xBF800000),
+    );
+}
+
 pub(crate) fn read_intervals() {
     read_cuts();
     read_shifts();
     read_mirrors();
+    read_mirrored_ends();
     read_canonicals();
 }

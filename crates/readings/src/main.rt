@@ -6,6 +6,7 @@ mod intervals;
 mod narrowings;
 mod operands;
 mod print;
+mod refused_sheets;
 mod sheets;
 mod sums;
 mod traps;
@@ -17,6 +18,7 @@ fn main() {
     traps::read_traps();
     floats::read_floats();
     sheets::read_sheets();
+    refused_sheets::read_refused_sheets();
     compare::compare_width(32);
     compare::compare_width(64);
 }

@@ -1,4 +1,4 @@
-// 01's sheets, run as kept sheets: outcome, passes, sum and the first four cells; and each refusal with its place.
+// 01's sheets and sheets with records of each kind, run as kept sheets: outcome, passes, record and the first four cells.
 use crate::intervals::put_interval;
 use crate::narrowings::equal_intervals;
 use crate::narrowings::point;
@@ -7,22 +7,21 @@ use crate::print::put_text;
 use crate::print::put_verdict;
 use arith::interval::Interval;
 use sheet::adding::add_cell;
-use sheet::adding::add_sum;
-use sheet::kept::Answer;
+use sheet::adding::add_record;
 use sheet::kept::Record;
 use sheet::kept::Sheet;
 use sheet::kept::open;
 use sheet::narrowing::narrow_sheet;
 use sheet::passes::Outcome;
 
-// An outcome in numbers: 1 settled and 2 stopped with the passes, 3 no triple with pass and sum, 4 refused with number and place.
-struct Reply {
+// An outcome in numbers: 1 settled and 2 stopped with the passes, 3 no triple with pass and record, 4 refused with number and place.
+pub(crate) struct Reply {
     kind: u64,
     first: u64,
     second: u64,
 }
 
-fn settled(passes: u64) -> Reply {
+pub(crate) fn settled(passes: u64) -> Reply {
     Reply {
         kind: 1,
         first: passes,
@@ -38,15 +37,15 @@ fn stopped(passes: u64) -> Reply {
     }
 }
 
-fn no_triple(pass: u64, sum: u64) -> Reply {
+fn no_triple(pass: u64, record: u64) -> Reply {
     Reply {
         kind: 3,
         first: pass,
-        second: sum,
+        second: record,
     }
 }
 
-fn refused(number: u64, place: u64) -> Reply {
+pub(crate) fn refused(number: u64, place: u64) -> Reply {
     Reply {
         kind: 4,
         first: number,
@@ -57,17 +56,17 @@ fn refused(number: u64, place: u64) -> Reply {
 fn reply_of(outcome: Outcome) -> Reply {
     match outcome {
         Outcome::Settled { passes } => settled(passes),
-        Outcome::NoTriple { pass, sum } => no_triple(pass, sum),
+        Outcome::NoTriple { pass, record } => no_triple(pass, record),
         Outcome::Stopped { passes } => stopped(passes),
         Outcome::Refused(r) => refused(r.number, r.place),
     }
 }
 
-fn equal(r: Reply, s: Reply) -> bool {
+pub(crate) fn equal(r: Reply, s: Reply) -> bool {
     (r.kind == s.kind) & (r.first == s.first) & (r.second == s.second)
 }
 
-fn put_reply(r: Reply) {
+pub(crate) fn put_reply(r: Reply) {
     let kind = r.kind;
     match kind {
         1 => put_text(b": settled"),
@@ -79,15 +78,53 @@ fn put_reply(r: Reply) {
     put_number(r.second);
 }
 
+pub(crate) fn of_kind(kind: u64, x: u64, a: u64, b: u64) -> Record {
+    Record { kind, x, a, b }
+}
+
+pub(crate) fn sum(x: u64, a: u64, b: u64) -> Record {
+    of_kind(0, x, a, b)
+}
+
+pub(crate) fn diff(x: u64, a: u64, b: u64) -> Record {
+    of_kind(1, x, a, b)
+}
+
+pub(crate) fn neg(x: u64, y: u64) -> Record {
+    of_kind(2, x, y, 0)
+}
+
+// A record by the word for its kind, or by the kind where there is none, and its three numbers.
+pub(crate) fn put_record(r: Record) {
+    let kind = r.kind;
+    match kind {
+        0 => put_text(b" sum"),
+        1 => put_text(b" diff"),
+        2 => put_text(b" neg"),
+        _ => {
+            put_text(b" kind");
+            put_number(kind);
+        }
+    }
+    put_number(r.x);
+    put_number(r.a);
+    put_number(r.b);
+}
+
+fn put_limit(limit: u64) {
+    put_text(b", limit");
+    put_number(limit);
+}
+
 // The first four cells of a sheet.
-struct Four {
+pub(crate) struct Four {
     c0: Interval,
     c1: Interval,
     c2: Interval,
     c3: Interval,
 }
 
-fn four_of(sheet: Sheet) -> Four {
+pub(crate) fn four_of(sheet: Sheet) -> Four {
     let cells = sheet.cells;
     Four {
         c0: cells[0],
@@ -114,12 +151,12 @@ fn put_cells(f: Four) {
 }
 
 // What is read of a run.
-struct Shown {
+pub(crate) struct Shown {
     reply: Reply,
     cells: Four,
 }
 
-fn show_run(sheet: Sheet) -> Shown {
+pub(crate) fn show_run(sheet: Sheet) -> Shown {
     let run = narrow_sheet(sheet);
     let outcome = run.outcome;
     let left = run.sheet;
@@ -130,7 +167,7 @@ fn show_run(sheet: Sheet) -> Shown {
 }
 
 // The rest of a line for a run: its outcome and the first four cells, and whether they are the ones expected.
-fn conclude(got: Shown, reply: Reply, cells: Four) {
+pub(crate) fn conclude(got: Shown, reply: Reply, cells: Four) {
     put_reply(got.reply);
     put_cells(got.cells);
     put_verdict(equal(got.reply, reply) & equal_cells(got.cells, cells));
@@ -146,59 +183,80 @@ fn with_cell(sheet: Sheet, cell: Interval) -> Sheet {
     kept.sheet
 }
 
-fn with_sum(sheet: Sheet, x: u64, a: u64, b: u64) -> Sheet {
-    let kept = add_sum(sheet, Record { x, a, b });
+fn with_record(sheet: Sheet, record: Record) -> Sheet {
+    let kept = add_record(sheet, record);
     kept.sheet
 }
 
-// The sheet of 01's listing.
-fn listed(limit: u64) -> Sheet {
+// A sheet of four cells at width 64.
+fn with_cells(limit: u64, f: Four) -> Sheet {
     let s = opened(64, limit);
-    let s = with_cell(s, Interval::new(0xC630000000000000, 0xC330000000000000));
-    let s = with_cell(s, Interval::new(0x3FF0000000000000, 0x4630000000000000));
-    let s = with_cell(s, Interval::new(0x3FE0000000000000, 0x3FF8000000000000));
-    with_sum(s, 0, 1, 2)
+    let s = with_cell(s, f.c0);
+    let s = with_cell(s, f.c1);
+    let s = with_cell(s, f.c2);
+    with_cell(s, f.c3)
 }
 
-fn read_listed(limit: u64, reply: Reply) {
-    put_text(b"sheet, listing, limit");
-    put_number(limit);
+// The sheet of 01's listing, with cell 1 and the record as given.
+fn listed(limit: u64, cell: Interval, record: Record) -> Sheet {
+    let s = opened(64, limit);
+    let s = with_cell(s, Interval::new(0xC630000000000000, 0xC330000000000000));
+    let s = with_cell(s, cell);
+    let s = with_cell(s, Interval::new(0x3FE0000000000000, 0x3FF8000000000000));
+    with_record(s, record)
+}
+
+// The rest of a line for it, with what is expected of cell 1.
+fn read_listed(sheet: Sheet, reply: Reply, cell: Interval) {
+    put_limit(sheet.limit);
     let cells = Four {
         c0: Interval::new(0xC33FFFFFFFFFFFFF, 0xC330000000000000),
-        c1: Interval::new(0x4330000000000001, 0x4340000000000000),
+        c1: cell,
         c2: point(0x3FF0000000000000),
         c3: point(0),
     };
-    conclude(show_run(listed(limit)), reply, cells);
+    conclude(show_run(sheet), reply, cells);
 }
 
-// 01's sheet of two sums, whose cells 0 and 2 lose a place at each end in every pass.
-fn two_sums(limit: u64) -> Sheet {
-    let s = opened(64, limit);
-    let s = with_cell(s, Interval::new(0, 10));
-    let s = with_cell(s, point(1));
-    let s = with_cell(s, Interval::new(0, 10));
-    let s = with_cell(s, point(0));
-    let s = with_sum(s, 0, 1, 2);
-    with_sum(s, 2, 3, 0)
+// 01's listing.
+fn read_listing(limit: u64, reply: Reply) {
+    put_text(b"sheet, listing");
+    let given = Interval::new(0x3FF0000000000000, 0x4630000000000000);
+    let expected = Interval::new(0x4330000000000001, 0x4340000000000000);
+    read_listed(listed(limit, given, sum(0, 1, 2)), reply, expected);
 }
 
-// A line for it, with cells 0 and 2 from low to high.
-fn read_two_sums(limit: u64, reply: Reply, low: u64, high: u64) {
-    put_text(b"sheet, two sums, limit");
-    put_number(limit);
-    let cells = Four {
+// The same with a diff, so cell 1 is mirrored, before and after.
+fn read_listing_of_diff() {
+    put_text(b"sheet, listing of a diff");
+    let given = Interval::new(0xC630000000000000, 0xBFF0000000000000);
+    let expected = Interval::new(0xC340000000000000, 0xC330000000000001);
+    read_listed(listed(10, given, diff(0, 1, 2)), settled(2), expected);
+}
+
+// 01's sheet of two sums, whose cells 0 and 2 lose a place at each end in every pass, here both from low to high.
+fn two_sums(low: u64, high: u64) -> Four {
+    Four {
         c0: Interval::new(low, high),
         c1: point(1),
         c2: Interval::new(low, high),
         c3: point(0),
-    };
-    conclude(show_run(two_sums(limit)), reply, cells);
+    }
+}
+
+// A line for it, with cells 0 and 2 from low to high after the run.
+fn read_two_sums(limit: u64, reply: Reply, low: u64, high: u64) {
+    put_text(b"sheet, two sums");
+    put_limit(limit);
+    let s = with_cells(limit, two_sums(0, 10));
+    let s = with_record(s, sum(0, 1, 2));
+    let s = with_record(s, sum(2, 3, 0));
+    conclude(show_run(s), reply, two_sums(low, high));
 }
 
 // A sheet of one cell, which is zero with its sign set and gets zero's one pattern.
-fn read_no_sums() {
-    put_text(b"sheet, no sums");
+fn read_no_records() {
+    put_text(b"sheet, no records");
     let zero = point(0);
     let cells = Four {
         c0: zero,
@@ -211,11 +269,11 @@ fn read_no_sums() {
 }
 
 fn read_examples() {
-    read_listed(10, settled(2));
-    read_listed(1, stopped(1));
+    read_listing(10, settled(2));
+    read_listing(1, stopped(1));
     read_two_sums(5, stopped(5), 5, 5);
     read_two_sums(6, no_triple(6, 0), 0, 10);
-    read_no_sums();
+    read_no_records();
 }
 
 // 01's last trap: each sum of the first pass is cut exactly, and the second sum moves a cell of the first, so nothing is settled.
@@ -223,146 +281,132 @@ fn read_trap() {
     read_two_sums(1, stopped(1), 1, 9);
 }
 
-// A sheet handed in with the given head and counts, all cells and sums zero.
-fn handed(width: u64, limit: u64, cell_count: u64, sum_count: u64) -> Sheet {
-    let cell = point(0);
-    let sum = Record { x: 0, a: 0, b: 0 };
-    let cells = [cell; 64];
-    let sums = [sum; 128];
-    Sheet {
-        width,
-        limit,
-        cell_count,
-        sum_count,
-        cells,
-        sums,
+// The pattern of place -p.
+fn minus(p: u64) -> u64 {
+    0x8000000000000000 ^ p
+}
+
+// The interval from place -p to place q.
+fn around(p: u64, q: u64) -> Interval {
+    Interval::new(minus(p), q)
+}
+
+// Cells at small places, where every sum is exact, with cell 3 at place 2.
+fn small(c0: Interval, c1: Interval, c2: Interval) -> Four {
+    Four {
+        c0,
+        c1,
+        c2,
+        c3: point(2),
     }
 }
 
-// The same with three cells, the last one given, and one sum.
-fn handed_three(cell: Interval, sum: Record) -> Sheet {
-    let mut s = handed(64, 1, 3, 1);
-    let mut cells = s.cells;
-    let mut sums = s.sums;
-    cells[2] = cell;
-    sums[0] = sum;
-    s.cells = cells;
-    s.sums = sums;
-    s
+// A line for one record over such cells. Cell 0 is given from zero with its sign set, which it does not keep.
+fn read_one(record: Record, reply: Reply, c0: Interval, c1: Interval, c2: Interval) {
+    put_text(b"sheet,");
+    put_record(record);
+    put_limit(10);
+    let given = small(around(0, 9), around(5, 4), around(7, 6));
+    let sheet = with_record(with_cells(10, given), record);
+    conclude(show_run(sheet), reply, small(c0, c1, c2));
 }
 
-// The rest of a line for a refused run: the sheet stays as handed in.
-fn read_refused(sheet: Sheet, number: u64, place: u64) {
-    conclude(show_run(sheet), refused(number, place), four_of(sheet));
+// A sum and a diff of the same cells, and a diff with cell 0; a neg without cell 0, which keeps its ends, one with it as x and one with it as y; a neg that leaves one float, and one with no solution.
+fn read_kinds() {
+    let c0 = Interval::new(0, 9);
+    let c1 = around(5, 4);
+    let c2 = around(7, 6);
+    read_one(sum(2, 1, 3), settled(2), c0, around(4, 4), around(2, 6));
+    read_one(diff(2, 1, 3), settled(2), c0, c1, around(3, 6));
+    read_one(diff(0, 1, 2), settled(2), c0, c1, around(4, 6));
+    read_one(neg(1, 2), settled(2), c0, c1, around(4, 5));
+    let positive = Interval::new(0, 5);
+    let negative = around(5, 0);
+    read_one(neg(0, 1), settled(2), positive, negative, c2);
+    read_one(neg(1, 0), settled(2), positive, negative, c2);
+    read_one(neg(2, 3), settled(2), c0, c1, point(minus(2)));
+    read_one(neg(0, 3), no_triple(1, 0), c0, c1, c2);
 }
 
-fn read_head(width: u64, limit: u64, cells: u64, sums: u64, number: u64, place: u64) {
-    put_text(b"sheet, head");
-    put_number(width);
-    put_number(limit);
-    put_text(b", counts");
-    put_number(cells);
-    put_number(sums);
-    read_refused(handed(width, limit, cells, sums), number, place);
+// Three records over the same cells.
+struct Three {
+    first: Record,
+    second: Record,
+    third: Record,
 }
 
-// The last cell of three.
-fn read_last(low: u64, high: u64, number: u64) {
-    let cell = Interval::new(low, high);
-    put_text(b"sheet, cell 2");
-    put_interval(64, cell);
-    read_refused(handed_three(cell, Record { x: 0, a: 1, b: 2 }), number, 2);
+// A line for a sheet of four cells under them.
+fn read_three(limit: u64, given: Four, t: Three, reply: Reply, expected: Four) {
+    put_text(b"sheet,");
+    put_record(t.first);
+    put_text(b",");
+    put_record(t.second);
+    put_text(b",");
+    put_record(t.third);
+    put_limit(limit);
+    let s = with_record(with_cells(limit, given), t.first);
+    let s = with_record(s, t.second);
+    let s = with_record(s, t.third);
+    conclude(show_run(s), reply, expected);
 }
 
-// The only sum over three cells.
-fn read_only(x: u64, a: u64, b: u64, number: u64) {
-    put_text(b"sheet, sum 0");
-    put_number(x);
-    put_number(a);
-    put_number(b);
-    read_refused(handed_three(point(0), Record { x, a, b }), number, 0);
+// One of each kind. Pass 1 cuts cells 0 to 3, pass 2 cell 2 by the diff, pass 3 cell 1 by the sum, pass 4 none.
+fn read_settling() {
+    let given = Four {
+        c0: around(3, 3),
+        c1: Interval::new(0, 12),
+        c2: around(4, 7),
+        c3: Interval::new(minus(5), minus(1)),
+    };
+    let expected = Four {
+        c0: Interval::new(1, 3),
+        c1: Interval::new(3, 9),
+        c2: Interval::new(2, 6),
+        c3: Interval::new(minus(3), minus(1)),
+    };
+    let records = Three {
+        first: sum(2, 0, 1),
+        second: diff(0, 2, 3),
+        third: neg(3, 0),
+    };
+    read_three(10, given, records, settled(4), expected);
 }
 
-// A sheet handed in is tested in the order of lists, with the index as place.
-fn read_handed() {
-    read_head(48, 0, 65, 0, 1, 0);
-    read_head(64, 65536, 65, 0, 7, 0);
-    read_head(64, 1, 65, 129, 10, 64);
-    read_head(64, 1, 64, 129, 10, 128);
-    read_last(1, 0x7FF0000000000000, 2);
-    read_last(1, 0, 3);
-    read_only(3, 3, 3, 5);
-    read_only(0, 1, 0, 6);
+// One of each kind, where cell 1 is to be the mirror of cell 2 by the neg and of the float below cell 2 by the diff. It loses a place at each end in every pass, until the neg, which is record 1, has no solution.
+fn read_at_odds(limit: u64, reply: Reply, c0: Interval, c1: Interval, c2: Interval) {
+    let ten = Interval::new(0, 10);
+    let given = Four {
+        c0: ten,
+        c1: around(10, 0),
+        c2: ten,
+        c3: point(1),
+    };
+    let expected = Four {
+        c0,
+        c1,
+        c2,
+        c3: point(1),
+    };
+    let records = Three {
+        first: sum(0, 3, 2),
+        second: neg(2, 1),
+        third: diff(3, 1, 2),
+    };
+    read_three(limit, given, records, reply, expected);
 }
 
-fn answer_reply(answer: Answer) -> Reply {
-    match answer {
-        Answer::Done => settled(0),
-        Answer::Refused(r) => refused(r.number, r.place),
-    }
-}
-
-// The rest of a line for a refused call on a sheet, with its number; the place is 0.
-fn read_answer(answer: Answer, number: u64) {
-    let got = answer_reply(answer);
-    put_reply(got);
-    put_verdict(equal(got, refused(number, 0)));
-}
-
-fn read_open(width: u64, limit: u64, number: u64) {
-    put_text(b"sheet, open");
-    put_number(width);
-    put_number(limit);
-    let kept = open(width, limit);
-    let answer = kept.answer;
-    read_answer(answer, number);
-}
-
-// A cell added to a sheet of 64 zeros.
-fn read_cell(low: u64, high: u64, number: u64) {
-    let cell = Interval::new(low, high);
-    put_text(b"sheet, add cell");
-    put_interval(64, cell);
-    let kept = add_cell(handed(64, 1, 64, 0), cell);
-    let answer = kept.answer;
-    read_answer(answer, number);
-}
-
-// A sheet of 128 sums over three zeros.
-fn full_of_sums() -> Sheet {
-    let mut s = handed(64, 1, 3, 128);
-    let sum = Record { x: 0, a: 1, b: 2 };
-    let sums = [sum; 128];
-    s.sums = sums;
-    s
-}
-
-// A sum added to that sheet.
-fn read_sum(x: u64, a: u64, b: u64, number: u64) {
-    put_text(b"sheet, add sum");
-    put_number(x);
-    put_number(a);
-    put_number(b);
-    let kept = add_sum(full_of_sums(), Record { x, a, b });
-    let answer = kept.answer;
-    read_answer(answer, number);
-}
-
-// Opening: 1, 7. Adding: 2, 3, 10 and 5, 6, 10.
-fn read_additions() {
-    read_open(48, 0, 1);
-    read_open(32, 0, 7);
-    read_cell(1, 0x7FF0000000000000, 2);
-    read_cell(1, 0, 3);
-    read_cell(0, 0, 10);
-    read_sum(0, 0, 3, 5);
-    read_sum(0, 0, 2, 6);
-    read_sum(0, 1, 2, 10);
+fn read_three_kinds() {
+    read_settling();
+    let c0 = Interval::new(4, 6);
+    read_at_odds(5, stopped(5), c0, point(minus(5)), point(6));
+    let ten = Interval::new(0, 10);
+    read_at_odds(6, no_triple(6, 1), ten, around(10, 0), ten);
 }
 
 pub(crate) fn read_sheets() {
     read_examples();
     read_trap();
-    read_handed();
-    read_additions();
+    read_listing_of_diff();
+    read_kinds();
+    read_three_kinds();
 }

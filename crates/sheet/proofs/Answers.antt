@@ -15,7 +15,7 @@ use Rattle.sheet.specs.declared.kept.Sheet.{Sheet}
 use Rattle.sheet.specs.declared.kept.Answer.{Answer}
 use Rattle.sheet.specs.declared.kept.Answer.the-variants.{Done, Refused}
 use Rattle.sheet.specs.declared.kept.Kept.{Kept}
-use Rattle.sheet.specs.Faults.{headFault, cellFault, sumFault}
+use Rattle.sheet.specs.Faults.{headFault, cellFault, recordFault}
 use Rattle.sheet.specs.Sheets.{refusedAt, andThen, require, faultAt, firstFault, testLists, addTest, keptBy, blank, openOf}
 
 -- ---- opening
@@ -29,38 +29,38 @@ module _ (width limit n : ℕ) (e : n ≡ headFault width limit) where
   opened z = ap (λ (t : Bool). keptBy (require t n 0) (blank 0 0) (blank width limit)) (sym (eq-eqb n 0 z)) ∙ ap (λ (m : ℕ). keptBy (faultAt m 0) (blank 0 0) (blank width limit)) e
 
 -- ---- testing
-module _ (width limit m n : ℕ) (cells : List Interval) (sums : List Record) where
-  pub test-head : (headFault width limit ≡ 0 → ⊥) → refusedAt (headFault width limit) 0 ≡ testLists width limit m n cells sums
+module _ (width limit m n : ℕ) (cells : List Interval) (records : List Record) where
+  pub test-head : (headFault width limit ≡ 0 → ⊥) → refusedAt (headFault width limit) 0 ≡ testLists width limit m n cells records
   unfolding testLists
   test-head ne = rw (ne-eqb _ _ ne)
 
   module _ (h : headFault width limit ≡ 0) where
-    pub test-many-cells : 64 < m → refusedAt 10 64 ≡ testLists width limit m n cells sums
+    pub test-many-cells : 64 < m → refusedAt 10 64 ≡ testLists width limit m n cells records
     unfolding testLists
     test-many-cells l = rw (eq-eqb _ _ h, lt-leb m 64 l)
 
-    pub test-many-sums : m ≤ 64 → 128 < n → refusedAt 10 128 ≡ testLists width limit m n cells sums
+    pub test-many-records : m ≤ 64 → 128 < n → refusedAt 10 128 ≡ testLists width limit m n cells records
     unfolding testLists
-    test-many-sums k l = rw (eq-eqb _ _ h, le-leb m 64 k, lt-leb n 128 l)
+    test-many-records k l = rw (eq-eqb _ _ h, le-leb m 64 k, lt-leb n 128 l)
 
     module _ (k : m ≤ 64) (l : n ≤ 128) where
-      test-rest : andThen (firstFault (cellFault width) 0 cells) (firstFault (sumFault m) 0 sums) ≡ testLists width limit m n cells sums
+      test-rest : andThen (firstFault (cellFault width) 0 cells) (firstFault (recordFault m) 0 records) ≡ testLists width limit m n cells records
       unfolding testLists
       test-rest = rw (eq-eqb _ _ h, le-leb m 64 k, le-leb n 128 l)
 
-      pub test-bad-cell : (r : Refusal) → firstFault (cellFault width) 0 cells ≡ Refused r → Refused r ≡ testLists width limit m n cells sums
-      test-bad-cell r e = ap (λ (a : Answer). andThen a (firstFault (sumFault m) 0 sums)) (sym e) ∙ test-rest
+      pub test-bad-cell : (r : Refusal) → firstFault (cellFault width) 0 cells ≡ Refused r → Refused r ≡ testLists width limit m n cells records
+      test-bad-cell r e = ap (λ (a : Answer). andThen a (firstFault (recordFault m) 0 records)) (sym e) ∙ test-rest
 
-      pub test-good-cells : firstFault (cellFault width) 0 cells ≡ Done → firstFault (sumFault m) 0 sums ≡ testLists width limit m n cells sums
-      test-good-cells e = ap (λ (a : Answer). andThen a (firstFault (sumFault m) 0 sums)) (sym e) ∙ test-rest
+      pub test-good-cells : firstFault (cellFault width) 0 cells ≡ Done → firstFault (recordFault m) 0 records ≡ testLists width limit m n cells records
+      test-good-cells e = ap (λ (a : Answer). andThen a (firstFault (recordFault m) 0 records)) (sym e) ∙ test-rest
 
 -- what a test that lets pass has seen
-pub record AllGood (width limit m n : ℕ) (cells : List Interval) (sums : List Record) : Type 0 where
+pub record AllGood (width limit m n : ℕ) (cells : List Interval) (records : List Record) : Type 0 where
   pub head : headFault width limit ≡ 0
   pub few-cells : m ≤ 64
-  pub few-sums : n ≤ 128
+  pub few-records : n ≤ 128
   pub cells-good : firstFault (cellFault width) 0 cells ≡ Done
-  pub sums-good : firstFault (sumFault m) 0 sums ≡ Done
+  pub records-good : firstFault (recordFault m) 0 records ≡ Done
 
 and-done : (a b : Answer) → andThen a b ≡ Done → (a ≡ Done) × (b ≡ Done)
 and-done Done b e = (refl, e)
@@ -70,9 +70,9 @@ require-done : (t : Bool) (n p : ℕ) → require t n p ≡ Done → t ≡ true
 require-done true n p e = refl
 require-done false n p e = absurd (let z : _≡_ {A = ℕ} 0 1 = cc in omega arith)
 
-pub all-good : (width limit m n : ℕ) (cells : List Interval) (sums : List Record) → testLists width limit m n cells sums ≡ Done → AllGood width limit m n cells sums
+pub all-good : (width limit m n : ℕ) (cells : List Interval) (records : List Record) → testLists width limit m n cells records ≡ Done → AllGood width limit m n cells records
 unfolding testLists
-all-good width limit m n cells sums e =
+all-good width limit m n cells records e =
     let a = and-done (faultAt (headFault width limit) 0) _ e in
     let b = and-done (require (leb m 64) 10 64) _ (a .1) in
     let c = and-done (require (leb n 128) 10 128) _ (b .1) in
@@ -80,13 +80,13 @@ all-good width limit m n cells sums e =
     record {
       head = eqb-true _ _ (require-done _ _ _ (a .0));
       few-cells = leb-true m 64 (require-done _ _ _ (b .0));
-      few-sums = leb-true n 128 (require-done _ _ _ (c .0));
+      few-records = leb-true n 128 (require-done _ _ _ (c .0));
       cells-good = d .0;
-      sums-good = d .1;
+      records-good = d .1;
     }
 
-pub passes-test : (width limit m n : ℕ) (cells : List Interval) (sums : List Record) → AllGood width limit m n cells sums → testLists width limit m n cells sums ≡ Done
-passes-test width limit m n cells sums p = sym (test-good-cells width limit m n cells sums (p .head) (p .few-cells) (p .few-sums) (p .cells-good)) ∙ p .sums-good
+pub passes-test : (width limit m n : ℕ) (cells : List Interval) (records : List Record) → AllGood width limit m n cells records → testLists width limit m n cells records ≡ Done
+passes-test width limit m n cells records p = sym (test-good-cells width limit m n cells records (p .head) (p .few-cells) (p .few-records) (p .cells-good)) ∙ p .records-good
 
 -- ---- adding
 module _ (tested : Answer) (fault : ℕ) (room : Bool) where

@@ -50,15 +50,8 @@ around-all c d e p q i =
     let k = q i in
     record { low = omega arith; high = omega arith }
 
--- a cell of the outer box set to no less than the inner one's; a cell of the inner set to no more than the outer's
-pub around-set : (c d : Box) (i : ℕ) (v : Interval) → Around c d → Inside v (at d i) → Around (set c i v) d
-around-set c d i v w h j = set-cases (λ u. Inside u (at d j)) c i j v (w j) (λ e. rw e h)
-
-pub set-around : (c d : Box) (i : ℕ) (v : Interval) → Around c d → Inside (at c i) v → Around c (set d i v)
-set-around c d i v w h j = set-cases (Inside (at c j)) d i j v (w j) (λ e. rw e h)
-
 -- ---- equality
-same-interval : (I J : Interval) → Inside I J → Inside J I → I ≡ J
+pub same-interval : (I J : Interval) → Inside I J → Inside J I → I ≡ J
 same-interval I J p q =
     let l : I .low ≡ J .low = omega arith in
     let h : I .high ≡ J .high = omega arith in

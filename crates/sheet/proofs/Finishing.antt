@@ -15,16 +15,19 @@ use Rattle.sheet.specs.declared.passes.Outcome.the-variants.{NoTriple, R
 use Rattle.sheet.specs.declared.passes.Halted.{Halted}
 use Rattle.sheet.specs.declared.narrowing.Run.{Run}
 use Rattle.sheet.specs.Cells.{fractionOf, exponentOf, boxOf}
-use Rattle.sheet.specs.Sheets.{noSum, places, usedCells, usedSums, tidied, withCells, testOf}
-use Rattle.sheet.specs.Boxes.{Box, IsBox, Names}
+use Rattle.sheet.specs.Sheets.{noRecord, places, usedCells, usedRecords, tidied, withCells, testOf}
+use Rattle.sheet.specs.Boxes.{Box, IsBox}
+use Rattle.sheet.specs.Members.{Each}
+use Rattle.sheet.specs.Records.{named, Names}
 use Rattle.sheet.specs.Runs.{Ended, settled, stopped, noTriple, leftBy, lastBox, endNumber, endValues}
 use Rattle.sheet.specs.Consistency.{AllNames}
 use Rattle.sheet.specs.Loops.{EndsAs}
 use Rattle.sheet.specs.Narrowings.{outcomeNumber, outcomeValues, endOf, withBox, outcomeBy, ranOn, runAfter, narrowSheetOf, Narrows}
+use Rattle.sheet.proofs.Members.{each-at}
 use Rattle.sheet.proofs.Demand.{run-box, run-demand3}
 use Rattle.sheet.proofs.Numbers.{test-number}
 use Rattle.sheet.proofs.Places.{box-found}
-use Rattle.sheet.proofs.Tidied.{first-box, sums-name, named}
+use Rattle.sheet.proofs.Tidied.{first-box, records-name, records-counted}
 
 -- ---- the outcome of a run
 -- its number and values are those of how it ended
@@ -70,7 +73,7 @@ refused-narrows s r t =
     }
 
 -- a sheet that is run
-module _ (s : Sheet) (cells-long : length (s .cells) ≡ 64) (sums-long : length (s .sums) ≡ 128) (t : testOf s ≡ Answer.Done) where
+module _ (s : Sheet) (cells-long : length (s .cells) ≡ 64) (records-long : length (s .records) ≡ 128) (t : testOf s ≡ Answer.Done) where
   -- its last box is that of the sheet it leaves
   last-is :
       (e : Ended) → IsBox (fractionOf (s .width)) (exponentOf (s .width)) (s .«cell_count») (lastBox (boxOf (s .width) (usedCells s)) e) →
@@ -83,13 +86,12 @@ module _ (s : Sheet) (cells-long : length (s .cells) ≡ 64) (sums-long : length
   pub run-narrows : (r : Run) → r ≡ ranOn s (endOf s) → Narrows s r
   unfolding narrowSheetOf
   run-narrows r e =
-      let b = first-box s cells-long sums-long t in
+      let b = first-box s cells-long records-long t in
       let n = b .cells in
       let first = boxOf (s .width) (usedCells s) in
       let is : IsBox (fractionOf (s .width)) (exponentOf (s .width)) (length first) first = rw n b in
-      let names : AllNames (length first) (usedSums s) = λ k l. all k (rw (named s cells-long sums-long t) at l) in
-      let whole = run-demand3 (fractionOf (s .width)) (exponentOf (s .width)) (usedSums s) (s .limit) first is names in
-      let box = rw n at (run-box (fractionOf (s .width)) (exponentOf (s .width)) (usedSums s) (s .limit) first is names) in
+      let whole = run-demand3 (fractionOf (s .width)) (exponentOf (s .width)) (usedRecords s) (s .limit) first is all-named in
+      let box = rw n at (run-box (fractionOf (s .width)) (exponentOf (s .width)) (usedRecords s) (s .limit) first is all-named) in
       record {
         answer = e ∙ ap (λ (a : Answer). runAfter a s) (sym t);
         told = λ d. rw e (told-by (endOf s));
@@ -98,5 +100,10 @@ module _ (s : Sheet) (cells-long : length (s .cells) ≡ 64) (sums-long : length
         demand3 = rw e (rw (told-by (endOf s) .0, ← (last-is (endOf s) box)) whole);
       }
     where
-      all : (k : ℕ) → k < s .«sum_count» → Names (length (boxOf (s .width) (usedCells s))) (getD (usedSums s) k noSum)
-      all k l = rw (first-box s cells-long sums-long t .cells, getD-take (s .«sum_count») (s .sums) k noSum l) (sums-name s cells-long sums-long t k l)
+      at-place : (k : ℕ) → k < s .«record_count» → Names (length (boxOf (s .width) (usedCells s))) (getD (usedRecords s) k noRecord)
+      at-place k l = rw (first-box s cells-long records-long t .cells, getD-take (s .«record_count») (s .records) k noRecord l) (records-name s cells-long records-long t k l)
+
+      all-named : AllNames (length (boxOf (s .width) (usedCells s))) (usedRecords s)
+      all-named =
+          each-at (λ r. Each (λ i. i < length (boxOf (s .width) (usedCells s))) (named r)) noRecord (usedRecords s)
+          (λ k l. at-place k (rw (records-counted s cells-long records-long t) at l) .cells)

@@ -15,41 +15,41 @@ use Rattle.sheet.specs.declared.kept.Sheet.{Sheet}
 use Rattle.sheet.specs.declared.kept.Answer.the-variants.{Done}
 use Rattle.sheet.specs.declared.kept.Kept.{Kept}
 use Rattle.sheet.specs.Cells.{canonicalCell}
-use Rattle.sheet.specs.Faults.{headFault, cellFault, sumFault}
-use Rattle.sheet.specs.Sheets.{noCell, noSum, blank, usedCells, usedSums, tidied, firstFault, testOf, Sound, withCell, withSum, openOf, addCellOf, addSumOf}
+use Rattle.sheet.specs.Faults.{headFault, cellFault, recordFault}
+use Rattle.sheet.specs.Sheets.{noCell, noRecord, blank, usedCells, usedRecords, tidied, firstFault, testOf, Sound, withCell, withRecord, openOf, addCellOf, addRecordOf}
 use Rattle.sheet.proofs.Firsts.{faultless-at, none-found}
 use Rattle.sheet.proofs.Filling.{length-filled}
 use Rattle.sheet.proofs.Answers.{all-good, passes-test, opened, added}
 use Rattle.sheet.proofs.Cells.{canonical-faultless}
-use Rattle.sheet.proofs.Sums.{sum-more}
+use Rattle.sheet.proofs.Records.{record-more}
 use Rattle.sheet.proofs.Places.{getD-under}
-use Rattle.sheet.proofs.Tidied.{used, named, tidied-sum}
+use Rattle.sheet.proofs.Tidied.{cells-counted, records-counted, tidied-record}
 
 -- a sound sheet by its members: what the test asks of each
 record Good (s : Sheet) : Type 0 where
   cells-long : length (s .cells) ≡ 64
-  sums-long : length (s .sums) ≡ 128
+  records-long : length (s .records) ≡ 128
   head : headFault (s .width) (s .limit) ≡ 0
   few-cells : s .«cell_count» ≤ 64
-  few-sums : s .«sum_count» ≤ 128
+  few-records : s .«record_count» ≤ 128
   cells : (i : ℕ) → i < s .«cell_count» → cellFault (s .width) (getD (s .cells) i noCell) ≡ 0
-  sums : (k : ℕ) → k < s .«sum_count» → sumFault (s .«cell_count») (getD (s .sums) k noSum) ≡ 0
+  records : (k : ℕ) → k < s .«record_count» → recordFault (s .«cell_count») (getD (s .records) k noRecord) ≡ 0
 
 good : (s : Sheet) → Sound s → Good s
 good s h =
-    let p = all-good (s .width) (s .limit) (s .«cell_count») (s .«sum_count») (usedCells s) (usedSums s) (h .passes) in
+    let p = all-good (s .width) (s .limit) (s .«cell_count») (s .«record_count») (usedCells s) (usedRecords s) (h .passes) in
     let a = p .few-cells in
-    let b = p .few-sums in
+    let b = p .few-records in
     let c = h .cells-long in
-    let d = h .sums-long in
+    let d = h .records-long in
     record {
       cells-long = c;
-      sums-long = d;
+      records-long = d;
       head = p .head;
       few-cells = a;
-      few-sums = b;
+      few-records = b;
       cells = λ i l. faultless-at (cellFault (s .width)) noCell (s .cells) (s .«cell_count») i (omega arith) (p .cells-good) l;
-      sums = λ k l. faultless-at (sumFault (s .«cell_count»)) noSum (s .sums) (s .«sum_count») k (omega arith) (p .sums-good) l;
+      records = λ k l. faultless-at (recordFault (s .«cell_count»)) noRecord (s .records) (s .«record_count») k (omega arith) (p .records-good) l;
     }
 
 first-none : {A : Type 0} (fault : A → ℕ) (d : A) (l : List A) (n : ℕ) → ((i : ℕ) → i < n → fault (getD l i d) ≡ 0) → firstFault fault 0 (take n l) ≡ Done
@@ -58,13 +58,13 @@ first-none fault d l n h = none-found fault d 0 (take n l) (λ i lt. let k : i <
 sound : (s : Sheet) → Good s → Sound s
 sound s g = record {
   cells-long = g .cells-long;
-  sums-long = g .sums-long;
-  passes = passes-test (s .width) (s .limit) (s .«cell_count») (s .«sum_count») (usedCells s) (usedSums s) (record {
+  records-long = g .records-long;
+  passes = passes-test (s .width) (s .limit) (s .«cell_count») (s .«record_count») (usedCells s) (usedRecords s) (record {
     head = g .head;
     few-cells = g .few-cells;
-    few-sums = g .few-sums;
+    few-records = g .few-records;
     cells-good = first-none (cellFault (s .width)) noCell (s .cells) (s .«cell_count») (g .cells);
-    sums-good = first-none (sumFault (s .«cell_count»)) noSum (s .sums) (s .«sum_count») (g .sums);
+    records-good = first-none (recordFault (s .«cell_count»)) noRecord (s .records) (s .«record_count») (g .records);
   });
 }
 
@@ -74,12 +74,12 @@ open-sound width limit z = (
   sym (opened width limit (headFault width limit) refl z),
   sound (blank width limit) (record {
     cells-long = refl;
-    sums-long = refl;
+    records-long = refl;
     head = z;
     few-cells = omega arith;
-    few-sums = omega arith;
+    few-records = omega arith;
     cells = λ i l. absurd (omega arith);
-    sums = λ k l. absurd (omega arith);
+    records = λ k l. absurd (omega arith);
   }),
 )
 
@@ -89,26 +89,26 @@ module _ (s : Sheet) (h : Sound s) where
   g = good s h
 
   cells-used : length (map (canonicalCell (s .width)) (usedCells s)) ≡ s .«cell_count»
-  cells-used = length-map (usedCells s) (canonicalCell (s .width)) ∙ used s (h .cells-long) (h .sums-long) (h .passes)
+  cells-used = length-map (usedCells s) (canonicalCell (s .width)) ∙ cells-counted s (h .cells-long) (h .records-long) (h .passes)
 
   tidied-cell : (i : ℕ) → i < s .«cell_count» → getD (tidied s .cells) i noCell ≡ canonicalCell (s .width) (getD (s .cells) i noCell)
   unfolding tidied
   tidied-cell i l =
       let a = cells-used in
       List·getD-append (map (canonicalCell (s .width)) (usedCells s)) (replicate (64 - s .«cell_count») noCell) noCell i (omega arith)
-      ∙ getD-under (canonicalCell (s .width)) (usedCells s) i noCell noCell (rw (used s (h .cells-long) (h .sums-long) (h .passes)) l)
+      ∙ getD-under (canonicalCell (s .width)) (usedCells s) i noCell noCell (rw (cells-counted s (h .cells-long) (h .records-long) (h .passes)) l)
       ∙ ap (canonicalCell (s .width)) (getD-take (s .«cell_count») (s .cells) i noCell l)
 
   tidied-good : Good (tidied s)
   unfolding tidied
   tidied-good = record {
     cells-long = length-filled 64 (s .«cell_count») noCell (map (canonicalCell (s .width)) (usedCells s)) cells-used (g .few-cells);
-    sums-long = length-filled 128 (s .«sum_count») noSum (usedSums s) (named s (h .cells-long) (h .sums-long) (h .passes)) (g .few-sums);
+    records-long = length-filled 128 (s .«record_count») noRecord (usedRecords s) (records-counted s (h .cells-long) (h .records-long) (h .passes)) (g .few-records);
     head = g .head;
     few-cells = g .few-cells;
-    few-sums = g .few-sums;
+    few-records = g .few-records;
     cells = λ i l. rw (tidied-cell i l) (canonical-faultless (s .width) (getD (s .cells) i noCell) (g .cells i l));
-    sums = λ k l. rw (tidied-sum s (h .cells-long) (h .sums-long) (h .passes) k l) (g .sums k l);
+    records = λ k l. rw (tidied-record s (h .cells-long) (h .records-long) (h .passes) k l) (g .records k l);
   }
 
 -- ---- adding
@@ -125,25 +125,25 @@ with-cell s cell g lt z =
     let a = g .cells-long in
     record {
       cells-long = length-set (s .cells) (s .«cell_count») cell ∙ a;
-      sums-long = g .sums-long;
+      records-long = g .records-long;
       head = g .head;
       few-cells = omega arith;
-      few-sums = g .few-sums;
+      few-records = g .few-records;
       cells = one-more (λ c. cellFault (s .width) c ≡ 0) (s .cells) (s .«cell_count») cell noCell (omega arith) (g .cells) z;
-      sums = λ k l. sum-more (s .«cell_count») (getD (s .sums) k noSum) (g .sums k l);
+      records = λ k l. record-more (s .«cell_count») (getD (s .records) k noRecord) (g .records k l);
     }
 
-with-sum : (s : Sheet) (sum : Record) → Good s → s .«sum_count» < 128 → sumFault (s .«cell_count») sum ≡ 0 → Good (withSum s sum)
-with-sum s sum g lt z =
-    let a = g .sums-long in
+with-record : (s : Sheet) (r : Record) → Good s → s .«record_count» < 128 → recordFault (s .«cell_count») r ≡ 0 → Good (withRecord s r)
+with-record s r g lt z =
+    let a = g .records-long in
     record {
       cells-long = g .cells-long;
-      sums-long = length-set (s .sums) (s .«sum_count») sum ∙ a;
+      records-long = length-set (s .records) (s .«record_count») r ∙ a;
       head = g .head;
       few-cells = g .few-cells;
-      few-sums = omega arith;
+      few-records = omega arith;
       cells = g .cells;
-      sums = one-more (λ r. sumFault (s .«cell_count») r ≡ 0) (s .sums) (s .«sum_count») sum noSum (omega arith) (g .sums) z;
+      records = one-more (λ t. recordFault (s .«cell_count») t ≡ 0) (s .records) (s .«record_count») r noRecord (omega arith) (g .records) z;
     }
 
 -- a cell without a fault is added where there is room
@@ -157,13 +157,13 @@ add-cell-sound s cell h z lt = (
   sound (withCell (tidied s) (canonicalCell (s .width) cell)) (with-cell (tidied s) (canonicalCell (s .width) cell) (tidied-good s h) lt (canonical-faultless (s .width) cell z)),
 )
 
--- and so is a sum
-pub add-sum-sound :
-    (s : Sheet) (sum : Record) → Sound s → sumFault (s .«cell_count») sum ≡ 0 → s .«sum_count» < 128 →
-    let next = withSum (tidied s) sum in
-    _≡_ {A = Kept} (addSumOf s sum) (record { sheet = next; answer = Done }) × Sound next
-unfolding addSumOf tidied
-add-sum-sound s sum h z lt = (
-  sym (added s (withSum (tidied s) sum) (testOf s) (sumFault (s .«cell_count») sum) (ltb (s .«sum_count») 128) (h .passes) z (lt-ltb _ _ lt)),
-  sound (withSum (tidied s) sum) (with-sum (tidied s) sum (tidied-good s h) lt z),
+-- and so is a record
+pub add-record-sound :
+    (s : Sheet) (r : Record) → Sound s → recordFault (s .«cell_count») r ≡ 0 → s .«record_count» < 128 →
+    let next = withRecord (tidied s) r in
+    _≡_ {A = Kept} (addRecordOf s r) (record { sheet = next; answer = Done }) × Sound next
+unfolding addRecordOf tidied
+add-record-sound s r h z lt = (
+  sym (added s (withRecord (tidied s) r) (testOf s) (recordFault (s .«cell_count») r) (ltb (s .«record_count») 128) (h .passes) z (lt-ltb _ _ lt)),
+  sound (withRecord (tidied s) r) (with-record (tidied s) r (tidied-good s h) lt z),
 )

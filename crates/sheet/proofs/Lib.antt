@@ -1,3 +1,8 @@
+pub mod Members
+pub mod Searching
+pub mod Stepping
+pub mod Fitting
+pub mod KindSteps
 pub mod Firsts
 pub mod Filling
 pub mod Answers
@@ -10,8 +15,9 @@ pub mod Outcomes
 pub mod Unnamed
 pub mod Comparing
 pub mod Places
+pub mod Mirroring
 pub mod Steps
-pub mod Sums
+pub mod Records
 pub mod Tidied
 pub mod Numbers
 pub mod Finishing

@@ -17,19 +17,19 @@ use Rattle.sheet.specs.declared.kept.Answer.the-variants.{Done, Refused}
 use Rattle.sheet.specs.declared.passes.Outcome.{Outcome}
 use Rattle.sheet.specs.declared.narrowing.Run.{Run}
 use Rattle.sheet.specs.Faults.{headFault}
-use Rattle.sheet.specs.Sheets.{noCell, noSum, places, usedCells, usedSums, tidied, testLists, testOf}
+use Rattle.sheet.specs.Sheets.{noCell, noRecord, places, usedCells, usedRecords, tidied, testLists, testOf}
+use Rattle.sheet.specs.Records.{Rules}
 use Rattle.sheet.specs.Boxes.{Box}
 use Rattle.sheet.specs.Runs.{Ended, settled, stopped, noTriple, run, endNumber, endValues}
 use Rattle.sheet.specs.Consistency.{Demand3}
-use Rattle.sheet.specs.Cells.{fractionOf, exponentOf, boxOf, cellsOf}
+use Rattle.sheet.specs.Cells.{fractionOf, exponentOf, rulesOf, boxOf, cellsOf}
 use Rattle.sheet.specs.Narrowings.{outcomeNumber, outcomeValues, endOf, ranOn, runAfter, narrowSheetOf, Narrows}
 use Rattle.sheet.specs.Loading.{puts, storedCells, storedCount, sheetOf}
 use Rattle.sheet.specs.Lists.{Lent, endOfLists, testOfLists, lentBy, lentAfter, narrowListsOf, NarrowsLists}
-use Rattle.sheet.proofs.Answers.{test-head, test-many-cells, test-many-sums}
+use Rattle.sheet.proofs.Answers.{test-head, test-many-cells, test-many-records}
 use Rattle.sheet.proofs.Filling.{length-filled}
 use Rattle.sheet.proofs.Numbers.{head-small}
-use Rattle.sheet.proofs.Demand.{pass-shrinks}
-use Rattle.sheet.proofs.Runs.{run-all}
+use Rattle.sheet.proofs.Runs.{pass-sized, run-all}
 use Rattle.sheet.proofs.Finishing.{told-by, left-by}
 
 -- ---- members put one by one
@@ -56,10 +56,10 @@ Sized n (settled p box) = length box ≡ n
 Sized n (stopped p box) = length box ≡ n
 Sized n (noTriple p k) = Unit {0}
 
-run-sized : (f e : ℕ) (sums : List Record) (limit : ℕ) (first : Box) → Sized (length first) (run f e sums limit first)
-run-sized f e sums limit first =
-    run-all f e sums (λ (c : Box). length c ≡ length first) (Sized (length first))
-    (λ c d q h. pass-shrinks f e sums 0 c d h .1 ∙ q)
+run-sized : (rules : Rules) (records : List Record) (limit : ℕ) (first : Box) → Sized (length first) (run rules records limit first)
+run-sized rules records limit first =
+    run-all rules records (λ (c : Box). length c ≡ length first) (Sized (length first))
+    (λ c d q h. pass-sized rules records c d h ∙ q)
     (λ p c q h. q)
     (λ p c q. q)
     (λ p k c q h. tt)
@@ -114,22 +114,22 @@ module _ (width limit : ℕ) (ys : List Interval) (zs : List Record) where
     used : usedCells (r .sheet) ≡ l .cells
 
   -- lists that the sheet has places for
-  module _ (few-cells : length ys ≤ 64) (few-sums : length zs ≤ 128) where
+  module _ (few-cells : length ys ≤ 64) (few-records : length zs ≤ 128) where
     used-cells : usedCells made ≡ ys
     unfolding sheetOf
     used-cells = put-in noCell ys (replicate 64 noCell) 64 few-cells (length-replicate 64 noCell)
 
-    used-sums : usedSums made ≡ zs
+    used-records : usedRecords made ≡ zs
     unfolding sheetOf
-    used-sums = put-in noSum zs (replicate 128 noSum) 128 few-sums (length-replicate 128 noSum)
+    used-records = put-in noRecord zs (replicate 128 noRecord) 128 few-records (length-replicate 128 noRecord)
 
     same-test : testOf made ≡ tested
     unfolding sheetOf
-    same-test = λ i. testLists width limit (length ys) (length zs) (used-cells i) (used-sums i)
+    same-test = λ i. testLists width limit (length ys) (length zs) (used-cells i) (used-records i)
 
     same-end : endOf made ≡ endOfLists width limit ys zs
     unfolding sheetOf
-    same-end = λ i. endOfLists width limit (used-cells i) (used-sums i)
+    same-end = λ i. endOfLists width limit (used-cells i) (used-records i)
 
     -- the cells of a box in the sheet's places
     used-box : (box : Box) → length box ≡ length ys → take (length ys) (places width (length ys) box) ≡ cellsOf width box
@@ -150,7 +150,7 @@ module _ (width limit : ℕ) (ys : List Interval) (zs : List Record) where
     sized : Sized (length ys) (endOf made)
     sized =
         subst (λ (n : ℕ). Sized n (endOf made)) (length-map (usedCells made) _ ∙ ap length used-cells)
-        (run-sized (fractionOf (made .width)) (exponentOf (made .width)) (usedSums made) (made .limit) (boxOf (made .width) (usedCells made)))
+        (run-sized (rulesOf (made .width)) (usedRecords made) (made .limit) (boxOf (made .width) (usedCells made)))
 
     by-test : (a : Answer) → Same (runAfter a made) (lentAfter a width limit ys zs)
     by-test Done = subst (λ (E : Ended). Same (ranOn made (endOf made)) (lentBy width ys E)) same-end (by-end (endOf made) sized)
@@ -168,15 +168,15 @@ module _ (width limit : ℕ) (ys : List Interval) (zs : List Record) where
           told = lists-told _ _ (same .outcome) (same .cells);
           refused = lists-refused _ _ (same .outcome) (same .cells);
           kept = lists-left _ _ (same .outcome) (same .cells);
-          demand3 = subst (λ (t : Type 0). t) (λ i. Demand3 (fractionOf width) (exponentOf width) (used-sums i) (boxOf width (used-cells i)) (boxOf width (last i)) (outcomeNumber (r .outcome))) (h .demand3);
+          demand3 = subst (λ (t : Type 0). t) (λ i. Demand3 (fractionOf width) (exponentOf width) (used-records i) (boxOf width (used-cells i)) (boxOf width (last i)) (outcomeNumber (r .outcome))) (h .demand3);
         }
 
   -- lists that are refused whatever they hold
-  module _ (q : Refusal) (all : (cells : List Interval) (sums : List Record) → Refused q ≡ testLists width limit (length ys) (length zs) cells sums) (some : 1 ≤ q .number) (few : q .number ≤ 10) where
+  module _ (q : Refusal) (all : (cells : List Interval) (records : List Record) → Refused q ≡ testLists width limit (length ys) (length zs) cells records) (some : 1 ≤ q .number) (few : q .number ≤ 10) where
     refused : (r : Run) → Narrows made r → NarrowsLists width limit ys zs (kept r) (r .outcome)
     unfolding sheetOf narrowSheetOf narrowListsOf
     refused r h =
-        let e : r ≡ runAfter (Refused q) made = h .answer ∙ ap (λ (a : Answer). runAfter a made) (sym (all (usedCells made) (usedSums made))) in
+        let e : r ≡ runAfter (Refused q) made = h .answer ∙ ap (λ (a : Answer). runAfter a made) (sym (all (usedCells made) (usedRecords made))) in
         let l : lentAfter (Refused q) width limit ys zs ≡ narrowListsOf width limit ys zs = ap (λ (a : Answer). lentAfter a width limit ys zs) (all ys zs) in
         let n : outcomeNumber (r .outcome) ≡ q .number = ap (λ (t : Run). outcomeNumber (t .outcome)) e in
         let o : r .outcome ≡ narrowListsOf width limit ys zs .outcome = ap (λ (t : Run). t .outcome) e ∙ ap (λ (t : Lent). t .outcome) l in
@@ -194,16 +194,16 @@ module _ (width limit : ℕ) (ys : List Interval) (zs : List Record) where
   pub lists-narrow : (r : Run) → Narrows made r → NarrowsLists width limit ys zs (kept r) (r .outcome)
   lists-narrow r h =
       elim (decLt 0 (headFault width limit)) [
-        | yes bad ↦ refused (record { number = headFault width limit; place = 0 }) (λ cells sums. test-head width limit (length ys) (length zs) cells sums (λ z. omega (arith, bad, z))) bad (omega (arith, head-small width limit)) r h
+        | yes bad ↦ refused (record { number = headFault width limit; place = 0 }) (λ cells records. test-head width limit (length ys) (length zs) cells records (λ z. omega (arith, bad, z))) bad (omega (arith, head-small width limit)) r h
         | no good ↦
             let z : headFault width limit ≡ 0 = omega (arith, good) in
             elim (decLt 64 (length ys)) [
-              | yes many ↦ refused (record { number = 10; place = 64 }) (λ cells sums. test-many-cells width limit (length ys) (length zs) cells sums z many) (omega arith) (omega arith) r h
+              | yes many ↦ refused (record { number = 10; place = 64 }) (λ cells records. test-many-cells width limit (length ys) (length zs) cells records z many) (omega arith) (omega arith) r h
               | no few ↦
                   let few-cells : length ys ≤ 64 = omega (arith, few) in
                   elim (decLt 128 (length zs)) [
-                    | yes many ↦ refused (record { number = 10; place = 128 }) (λ cells sums. test-many-sums width limit (length ys) (length zs) cells sums z few-cells many) (omega arith) (omega arith) r h
-                    | no few-sums ↦ placed few-cells (omega (arith, few-sums)) r h
+                    | yes many ↦ refused (record { number = 10; place = 128 }) (λ cells records. test-many-records width limit (length ys) (length zs) cells records z few-cells many) (omega arith) (omega arith) r h
+                    | no few-records ↦ placed few-cells (omega (arith, few-records)) r h
                   ]
             ]
       ]

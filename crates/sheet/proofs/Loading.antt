@@ -1,4 +1,4 @@
--- `load_cells` and `load_sums` meet their contracts, once: the members of a lent list are put into a sheet one by one, by a covered function. Any element type, and any such function.
+-- `load_cells` and `load_records` meet their contracts, once: the members of a lent list are put into a sheet one by one, by a covered function. Any element type, and any such function.
 --     loader           the MIR of both functions.        turn, done′       a turn of its loop, and what comes after it
 --     Puts, Loads      the clauses of the function that puts, and of the one that loads: one, the sheet with a member more; load, the sheet with the first n members; most, how many it has places for
 --     state i          the sheet after i turns.          more, ends      a turn that puts one member, and the turn that leaves the loop, with the rest of the body

@@ -18,8 +18,8 @@ use Rattle.sheet.specs.declared.kept.Record.{Record}
 use Rattle.sheet.specs.declared.kept.Sheet.{Sheet}
 use Rattle.sheet.specs.declared.kept.Answer.{Answer}
 use Rattle.sheet.specs.declared.kept.Answer.the-variants.{Done, Refused}
-use Rattle.sheet.specs.Faults.{imageNumber, headFault, cellFault, sumFault}
-use Rattle.sheet.specs.Sheets.{andThen, require, faultAt, firstFault, usedCells, usedSums, testLists, testOf}
+use Rattle.sheet.specs.Faults.{imageNumber, headFault, cellFault, tripleFault, pairFault, recordFault}
+use Rattle.sheet.specs.Sheets.{andThen, require, faultAt, firstFault, usedCells, usedRecords, testLists, testOf}
 
 -- ---- faults
 pick : {most : ℕ} (t : Bool) (n m : ℕ) → n ≤ most → m ≤ most → cond t n m ≤ most
@@ -40,15 +40,30 @@ cell-small width cell = go (canonicalOf width cell) refl
         let h = refused-number width cell r e in
         omega arith
 
-sum-small : (n : ℕ) (r : Record) → sumFault n r ≤ 10
-unfolding sumFault
-sum-small n r =
-    pick (leb n (r .x)) 5 _ (omega arith)
-    (pick (leb n (r .a)) 5 _ (omega arith)
-    (pick (leb n (r .b)) 5 _ (omega arith)
-    (pick (eqb (r .x) (r .a)) 6 _ (omega arith)
-    (pick (eqb (r .x) (r .b)) 6 _ (omega arith)
-    (pick (eqb (r .a) (r .b)) 6 0 (omega arith) (omega arith))))))
+triple-small : (n x a b : ℕ) → tripleFault n x a b ≤ 10
+unfolding tripleFault
+triple-small n x a b =
+    pick (leb n x) 5 _ (omega arith)
+    (pick (leb n a) 5 _ (omega arith)
+    (pick (leb n b) 5 _ (omega arith)
+    (pick (eqb x a) 6 _ (omega arith)
+    (pick (eqb x b) 6 _ (omega arith)
+    (pick (eqb a b) 6 0 (omega arith) (omega arith))))))
+
+pair-small : (n x a : ℕ) → pairFault n x a ≤ 10
+unfolding pairFault
+pair-small n x a =
+    pick (leb n x) 5 _ (omega arith)
+    (pick (leb n a) 5 _ (omega arith)
+    (pick (eqb x a) 6 0 (omega arith) (omega arith)))
+
+record-small : (n : ℕ) (r : Record) → recordFault n r ≤ 10
+unfolding recordFault
+record-small n r =
+    pick (ltb 2 (r .kind)) 4 _ (omega arith)
+    (pick (eqb (r .kind) 2) _ _
+    (pick (eqb (r .b) 0) _ 4 (pair-small n (r .x) (r .a)) (omega arith))
+    (triple-small n (r .x) (r .a) (r .b)))
 
 -- ---- answers
 abbrev Own : Answer → Type 0
@@ -78,6 +93,6 @@ unfolding testLists
 test-number s =
     own-then (faultAt (headFault (s .width) (s .limit)) 0) _ (own-fault (headFault (s .width) (s .limit)) 0 (omega (arith, head-small (s .width) (s .limit))))
     (own-then (require (leb (s .«cell_count») 64) 10 64) _ (own-require (leb (s .«cell_count») 64) 10 64 (λ e. omega arith) (omega arith))
-    (own-then (require (leb (s .«sum_count») 128) 10 128) _ (own-require (leb (s .«sum_count») 128) 10 128 (λ e. omega arith) (omega arith))
+    (own-then (require (leb (s .«record_count») 128) 10 128) _ (own-require (leb (s .«record_count») 128) 10 128 (λ e. omega arith) (omega arith))
     (own-then (firstFault (cellFault (s .width)) 0 (usedCells s)) _ (own-first (cellFault (s .width)) (cell-small (s .width)) 0 (usedCells s))
-    (own-first (sumFault (s .«cell_count»)) (sum-small (s .«cell_count»)) 0 (usedSums s)))))
+    (own-first (recordFault (s .«cell_count»)) (record-small (s .«cell_count»)) 0 (usedRecords s)))))

@@ -1,27 +1,28 @@
 -- A run ends settled exactly when an allowed pass is the first to run through and move no end, stopped exactly when every allowed pass ran through and moved one,
--- and with 'no triple' exactly when an allowed pass meets a sum with no triple. Assumes nothing.
+-- and with 'no triple' exactly when an allowed pass meets a record with no solution. Assumes nothing.
 use mathlib.Core.Path.{_≡_, refl, subst, _∙_}
 use mathlib.Core.List.{List}
 use mathlib.Core.Logic.{_↔_}
 use Prim.Native.Nat.{ℕ, _-_, _≤_}
 use native.Mathlib.Omega.{arith}
 use Rattle.sheet.specs.declared.kept.Record.{Record}
+use Rattle.sheet.specs.Records.{Rules}
 use Rattle.sheet.specs.Boxes.{Box}
 use Rattle.sheet.specs.Runs.{Ended, settled, stopped, noTriple, runFrom, run}
 use Rattle.sheet.specs.Outcomes.{Begins, start, next, Settles, Stops, Breaks}
 use Rattle.sheet.proofs.Boxes.{equal-same, unequal-same}
 use Rattle.sheet.proofs.Runs.{run-broken, run-settled, run-stopped, run-next, run-ends}
 
-module _ (f e : ℕ) (sums : List Record) (limit : ℕ) (first : Box) (some : 1 ≤ limit) where
+module _ (rules : Rules) (records : List Record) (limit : ℕ) (first : Box) (some : 1 ≤ limit) where
   -- ---- every end is one of the three
   abbrev Ends : Ended → Type 0
-  Ends (settled p box) = Settles f e sums limit first p box
-  Ends (stopped p box) = Stops f e sums limit first p box
-  Ends (noTriple p k) = Breaks f e sums limit first p k
+  Ends (settled p box) = Settles rules records limit first p box
+  Ends (stopped p box) = Stops rules records limit first p box
+  Ends (noTriple p k) = Breaks rules records limit first p k
 
-  ends : Ends (run f e sums limit first)
+  ends : Ends (run rules records limit first)
   ends =
-      run-ends f e sums limit (λ p c. (p ≤ limit) × Begins f e sums first p c) Ends
+      run-ends rules records limit (λ p c. (p ≤ limit) × Begins rules records first p c) Ends
       (λ p c d q l h m. (omega arith, next (q .1) h m))
       (λ p c q h. record { allowed = q .0; begins = q .1; still = h })
       (λ p c d q l h m. record { before = c; last = omega (arith, q .0); begins = q .1; through = h; moved = m })
@@ -29,27 +30,27 @@ module _ (f e : ℕ) (sums : List Record) (limit : ℕ) (first : Box) (some : 1 
       first (some, start)
 
   -- ---- and each of the three is an end: from a pass that is reached on
-  reaches : {p : ℕ} {c : Box} → p ≤ limit → Begins f e sums first p c → run f e sums limit first ≡ runFrom f e sums (limit - p) p c
+  reaches : {p : ℕ} {c : Box} → p ≤ limit → Begins rules records first p c → run rules records limit first ≡ runFrom rules records (limit - p) p c
   reaches le start = refl
-  reaches le (next {p} {box} {new} b h m) = reaches (omega arith) b ∙ run-next f e sums p box limit new h (unequal-same box new m) (omega arith)
+  reaches le (next {p} {box} {new} b h m) = reaches (omega arith) b ∙ run-next rules records p box limit new h (unequal-same box new m) (omega arith)
 
   module _ (p : ℕ) (box : Box) where
-    pub settled-exactly : run f e sums limit first ≡ settled p box ↔ Settles f e sums limit first p box
+    pub settled-exactly : run rules records limit first ≡ settled p box ↔ Settles rules records limit first p box
     settled-exactly = (
       λ h. subst Ends h ends,
-      λ s. reaches (s .allowed) (s .begins) ∙ run-settled f e sums p box (limit - p) box (s .still) (equal-same box box refl),
+      λ s. reaches (s .allowed) (s .begins) ∙ run-settled rules records p box (limit - p) box (s .still) (equal-same box box refl),
     )
 
-    pub stopped-exactly : run f e sums limit first ≡ stopped p box ↔ Stops f e sums limit first p box
+    pub stopped-exactly : run rules records limit first ≡ stopped p box ↔ Stops rules records limit first p box
     stopped-exactly = (
       λ h. subst Ends h ends,
       λ s.
           let l = s .last in
-          reaches (omega arith) (s .begins) ∙ run-stopped f e sums p (s .before) limit box (s .through) (unequal-same (s .before) box (s .moved)) (omega arith),
+          reaches (omega arith) (s .begins) ∙ run-stopped rules records p (s .before) limit box (s .through) (unequal-same (s .before) box (s .moved)) (omega arith),
     )
 
-  pub no-triple-exactly : (p k : ℕ) → run f e sums limit first ≡ noTriple p k ↔ Breaks f e sums limit first p k
+  pub no-triple-exactly : (p k : ℕ) → run rules records limit first ≡ noTriple p k ↔ Breaks rules records limit first p k
   no-triple-exactly p k = (
     λ h. subst Ends h ends,
-    λ s. reaches (s .allowed) (s .begins) ∙ run-broken f e sums p (s .before) (limit - p) k (s .breaks),
+    λ s. reaches (s .allowed) (s .begins) ∙ run-broken rules records p (s .before) (limit - p) k (s .breaks),
   )

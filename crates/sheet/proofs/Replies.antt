@@ -14,9 +14,9 @@ use Rattle.sheet.specs.declared.kept.Answer.{Answer}
 use Rattle.sheet.specs.declared.kept.Answer.the-variants.{Done, Refused}
 use Rattle.sheet.specs.declared.kept.Kept.{Kept}
 use Rattle.sheet.specs.Cells.{canonicalCell}
-use Rattle.sheet.specs.Faults.{cellFault, sumFault}
-use Rattle.sheet.specs.Sheets.{andThen, keptBy, blank, openOf, firstFault, testLists, testOf, usedCells, usedSums, addTest, tidied, withCell, withSum, addCellOf, addSumOf}
-use Rattle.sheet.specs.Replies.{testAt, faultless, allFaultless, openTests, listTests, sheetTests, addCellTests, addSumTests, keptTold, Keeps}
+use Rattle.sheet.specs.Faults.{cellFault, recordFault}
+use Rattle.sheet.specs.Sheets.{andThen, keptBy, blank, openOf, firstFault, testLists, testOf, usedCells, usedRecords, addTest, tidied, withCell, withRecord, addCellOf, addRecordOf}
+use Rattle.sheet.specs.Replies.{testAt, faultless, allFaultless, openTests, listTests, sheetTests, addCellTests, addRecordTests, keptTold, Keeps}
 
 -- ---- the answer of some tests
 abbrev pub answerAfter : List Test → Answer
@@ -37,20 +37,20 @@ first-after fault i [] = refl
 first-after fault i (v ∷ vs) = both-after (faultless (fault v) i ∷ []) (allFaultless fault (i + 1) vs) refl (first-after fault (i + 1) vs)
 
 -- the test of lists, and so of a sheet
-lists-after : (width limit m n : ℕ) (cells : List Interval) (sums : List Record) → testLists width limit m n cells sums ≡ answerAfter (listTests width limit m n cells sums)
+lists-after : (width limit m n : ℕ) (cells : List Interval) (records : List Record) → testLists width limit m n cells records ≡ answerAfter (listTests width limit m n cells records)
 unfolding testLists
-lists-after width limit m n cells sums =
+lists-after width limit m n cells records =
     let good = allFaultless (cellFault width) 0 cells in
-    let named = allFaultless (sumFault m) 0 sums in
+    let named = allFaultless (recordFault m) 0 records in
     let many = testAt (leb n 128) 10 128 in
     let more = testAt (leb m 64) 10 64 in
     both-after (openTests width limit) (more ∷ many ∷ (good ++ named)) refl
     (both-after (more ∷ []) (many ∷ (good ++ named)) refl
     (both-after (many ∷ []) (good ++ named) refl
-    (both-after good named (first-after (cellFault width) 0 cells) (first-after (sumFault m) 0 sums))))
+    (both-after good named (first-after (cellFault width) 0 cells) (first-after (recordFault m) 0 records))))
 
 pub sheet-after : (s : Sheet) → testOf s ≡ answerAfter (sheetTests s)
-sheet-after s = lists-after (s .width) (s .limit) (s .«cell_count») (s .«sum_count») (usedCells s) (usedSums s)
+sheet-after s = lists-after (s .width) (s .limit) (s .«cell_count») (s .«record_count») (usedCells s) (usedRecords s)
 
 -- the order of adding
 add-after : (s : Sheet) (fault : ℕ) (room : Bool) → addTest (testOf s) fault room ≡ answerAfter (sheetTests s ++ faultless fault 0 ∷ testAt room 10 0 ∷ [])
@@ -85,8 +85,8 @@ module _ (s : Sheet) where
   unfolding addCellOf
   add-cell-keeps cell = keeps-too (keeps s (withCell (tidied s) (canonicalCell (s .width) cell)) (addCellTests s cell) _ (add-after s (cellFault (s .width) cell) (ltb (s .«cell_count») 64)))
 
-  pub add-sum-keeps :
-      (sum : Record) {r : Kept} → r ≡ addSumOf s sum →
-      (r ≡ addSumOf s sum) × Keeps s (withSum (tidied s) sum) (addSumTests s sum) r
-  unfolding addSumOf
-  add-sum-keeps sum = keeps-too (keeps s (withSum (tidied s) sum) (addSumTests s sum) _ (add-after s (sumFault (s .«cell_count») sum) (ltb (s .«sum_count») 128)))
+  pub add-record-keeps :
+      (t : Record) {r : Kept} → r ≡ addRecordOf s t →
+      (r ≡ addRecordOf s t) × Keeps s (withRecord (tidied s) t) (addRecordTests s t) r
+  unfolding addRecordOf
+  add-record-keeps t = keeps-too (keeps s (withRecord (tidied s) t) (addRecordTests s t) _ (add-after s (recordFault (s .«cell_count») t) (ltb (s .«record_count») 128)))

@@ -1,58 +1,92 @@
--- The run one pass after the other, and a pass one sum after the other: what the loops rest on; and the induction over a run.
+-- The run one pass after the other, and a pass one record after the other: what the loops rest on; and the induction over a run.
 -- Assumes nothing.
 use mathlib.Core.Path.{_≡_, refl, subst, _∙_}
 use mathlib.Core.Bool.{Bool, true, false, cond}
-use mathlib.Core.List.{List}
+use mathlib.Core.List.{List, [], _∷_}
 use Prim.Native.Nat.{ℕ, zero, suc, _+_, _-_, _<_, _≤_}
 use native.Mathlib.Omega.{arith}
 use native.Mathlib.Numerals.{add-one}
-use lib.ListN.{length, getD, take, drop, length-take, drop-of-length-le}
+use lib.ListN.{length, getD, take, drop, set, length-set, length-take, drop-of-length-le}
 use lib.Seq.{drop-cons, getD-take}
 use Rattle.sheet.specs.declared.kept.Record.{Record}
+use Rattle.ladder.specs.Solution.{Interval}
+use Rattle.ladder.specs.Narrowing.{Extent, empty, over}
+use Rattle.sheet.specs.Records.{named, Rules}
 use Rattle.sheet.specs.Boxes.{Box}
-use Rattle.sheet.specs.Runs.{unsolved, left, step, Pass, broken, whole, passBy, passFrom, pass, Ended, settled, stopped, noTriple, sameBox, runBy, runFrom, run}
-use Rattle.sheet.specs.Sheets.{noSum}
+use Rattle.sheet.specs.Runs.{Step, unsolved, left, standing, stepBy, stepFrom, step, Pass, broken, whole, passBy, passFrom, pass, Ended, settled, stopped, noTriple, sameBox, runBy, runFrom, run}
+use Rattle.sheet.specs.Sheets.{noRecord}
 use Rattle.sheet.proofs.Boxes.{same-is, same-not}
 
--- ---- sum k of the first n of a list
-module _ (f e : ℕ) (l : List Record) (n k : ℕ) (c : Box) where
-  pass-step : k < n → n ≤ length l → passFrom f e (drop k (take n l)) k c ≡ passBy (step f e c (getD l k noSum)) (passFrom f e (drop (k + 1) (take n l)) (k + 1)) k
+-- ---- record k of the first n of a list
+module _ (rules : Rules) (l : List Record) (n k : ℕ) (c : Box) where
+  pass-step : k < n → n ≤ length l → passFrom rules (drop k (take n l)) k c ≡ passBy (step rules c (getD l k noRecord)) (passFrom rules (drop (k + 1) (take n l)) (k + 1)) k
   unfolding passFrom
   pass-step lt long =
       let h : k < length (take n l) = rw length-take (omega arith) in
-      rw (drop-cons (take n l) k noSum h, getD-take n l k noSum lt, add-one)
+      rw (drop-cons (take n l) k noRecord h, getD-take n l k noRecord lt, add-one)
 
-  pub pass-on : (d : Box) → k < n → n ≤ length l → step f e c (getD l k noSum) ≡ left d → passFrom f e (drop k (take n l)) k c ≡ passFrom f e (drop (k + 1) (take n l)) (k + 1) d
+  pub pass-on : (d : Box) → k < n → n ≤ length l → step rules c (getD l k noRecord) ≡ left d → passFrom rules (drop k (take n l)) k c ≡ passFrom rules (drop (k + 1) (take n l)) (k + 1) d
   pass-on d lt long h = pass-step lt long ∙ rw h
 
-  pub pass-off : k < n → n ≤ length l → step f e c (getD l k noSum) ≡ unsolved → passFrom f e (drop k (take n l)) k c ≡ broken k
+  pub pass-off : k < n → n ≤ length l → step rules c (getD l k noRecord) ≡ unsolved → passFrom rules (drop k (take n l)) k c ≡ broken k
   pass-off lt long h = pass-step lt long ∙ rw h
 
-  pub pass-end : n ≤ k → passFrom f e (drop k (take n l)) k c ≡ whole c
+  pub pass-end : n ≤ k → passFrom rules (drop k (take n l)) k c ≡ whole c
   unfolding passFrom
   pass-end le =
       let h : length (take n l) ≤ k = rw length-take (omega arith) in
       rw (drop-of-length-le (take n l) h)
 
+-- ---- the number of cells stays
+module _ (rules : Rules) where
+  abbrev StepSized : ℕ → Step → Type 0
+  StepSized n unsolved = Unit {0}
+  StepSized n (left box) = length box ≡ n
+
+  by-extent : (n : ℕ) (s : Extent) (next : Interval → Step) → ((I : Interval) → StepSized n (next I)) → StepSized n (stepBy s next)
+  by-extent n empty next h = tt
+  by-extent n (over I) next h = h I
+
+  step-from-sized : (box : Box) (r : Record) (is : List ℕ) (new : Box) (n : ℕ) → length new ≡ n → StepSized n (stepFrom rules box r is new)
+  unfolding stepFrom
+  step-from-sized box r [] new n e = e
+  step-from-sized box r (i ∷ is) new n e = by-extent n (standing rules box r i) (λ I. stepFrom rules box r is (set new i I)) (λ I. step-from-sized box r is (set new i I) n (length-set new i I ∙ e))
+
+  abbrev PassSized : ℕ → Pass → Type 0
+  PassSized n (broken k) = Unit {0}
+  PassSized n (whole box) = length box ≡ n
+
+  by-step : (n k : ℕ) (s : Step) (next : Box → Pass) → StepSized n s → ((box : Box) → length box ≡ n → PassSized n (next box)) → PassSized n (passBy s next k)
+  by-step n k unsolved next e h = tt
+  by-step n k (left box) next e h = h box e
+
+  pass-from-sized : (rs : List Record) (k : ℕ) (c : Box) (n : ℕ) → length c ≡ n → PassSized n (passFrom rules rs k c)
+  unfolding passFrom step
+  pass-from-sized [] k c n e = e
+  pass-from-sized (r ∷ rs) k c n e = by-step n k (step rules c r) (passFrom rules rs (k + 1)) (step-from-sized c r (named r) c n e) (λ d q. pass-from-sized rs (k + 1) d n q)
+
+  pub pass-sized : (records : List Record) (c d : Box) → pass rules records c ≡ whole d → length d ≡ length c
+  pass-sized records c d h = subst (PassSized (length c)) h (pass-from-sized records 0 c (length c) refl)
+
 -- ---- pass p of a run, from what the pass gave
-module _ (f e : ℕ) (sums : List Record) (p : ℕ) (c : Box) where
-  pub run-broken : (more k : ℕ) → pass f e sums c ≡ broken k → runFrom f e sums more p c ≡ noTriple p k
+module _ (rules : Rules) (records : List Record) (p : ℕ) (c : Box) where
+  pub run-broken : (more k : ℕ) → pass rules records c ≡ broken k → runFrom rules records more p c ≡ noTriple p k
   unfolding runFrom
   run-broken zero k h = rw h
   run-broken (suc more) k h = rw h
 
-  pub run-settled : (more : ℕ) (d : Box) → pass f e sums c ≡ whole d → sameBox c d ≡ true → runFrom f e sums more p c ≡ settled p d
+  pub run-settled : (more : ℕ) (d : Box) → pass rules records c ≡ whole d → sameBox c d ≡ true → runFrom rules records more p c ≡ settled p d
   unfolding runFrom
   run-settled zero d h t = rw (h, t)
   run-settled (suc more) d h t = rw (h, t)
 
-  pub run-stopped : (limit : ℕ) (d : Box) → pass f e sums c ≡ whole d → sameBox c d ≡ false → limit ≤ p → runFrom f e sums (limit - p) p c ≡ stopped p d
+  pub run-stopped : (limit : ℕ) (d : Box) → pass rules records c ≡ whole d → sameBox c d ≡ false → limit ≤ p → runFrom rules records (limit - p) p c ≡ stopped p d
   unfolding runFrom
   run-stopped limit d h t le =
       let m : limit - p ≡ 0 = omega arith in
       rw (m, h, t)
 
-  pub run-next : (limit : ℕ) (d : Box) → pass f e sums c ≡ whole d → sameBox c d ≡ false → p < limit → runFrom f e sums (limit - p) p c ≡ runFrom f e sums (limit - (p + 1)) (p + 1) d
+  pub run-next : (limit : ℕ) (d : Box) → pass rules records c ≡ whole d → sameBox c d ≡ false → p < limit → runFrom rules records (limit - p) p c ≡ runFrom rules records (limit - (p + 1)) (p + 1) d
   unfolding runFrom
   run-next limit d h t lt =
       let m : limit - p ≡ suc (limit - (p + 1)) = omega arith in
@@ -60,41 +94,41 @@ module _ (f e : ℕ) (sums : List Record) (p : ℕ) (c : Box) where
 
 -- ---- the induction over a run: what holds of each way it can end holds of its end
 -- Q is what holds of a pass and the box that it begins with
-module _ (f e : ℕ) (sums : List Record) (limit : ℕ) (Q : ℕ → Box → Type 0) (P : Ended → Type 0)
-    (next : (p : ℕ) (c d : Box) → Q p c → p < limit → pass f e sums c ≡ whole d → (c ≡ d → ⊥) → Q (p + 1) d)
-    (settles : (p : ℕ) (c : Box) → Q p c → pass f e sums c ≡ whole c → P (settled p c))
-    (stops : (p : ℕ) (c d : Box) → Q p c → limit ≤ p → pass f e sums c ≡ whole d → (c ≡ d → ⊥) → P (stopped p d))
-    (breaks : (p k : ℕ) (c : Box) → Q p c → pass f e sums c ≡ broken k → P (noTriple p k)) where
-  after : (g : Box → Ended) (p : ℕ) (c : Box) → Q p c → ((d : Box) → pass f e sums c ≡ whole d → (c ≡ d → ⊥) → P (g d)) → P (runBy g p c (pass f e sums c))
-  after g p c q more = go (pass f e sums c) refl
+module _ (rules : Rules) (records : List Record) (limit : ℕ) (Q : ℕ → Box → Type 0) (P : Ended → Type 0)
+    (next : (p : ℕ) (c d : Box) → Q p c → p < limit → pass rules records c ≡ whole d → (c ≡ d → ⊥) → Q (p + 1) d)
+    (settles : (p : ℕ) (c : Box) → Q p c → pass rules records c ≡ whole c → P (settled p c))
+    (stops : (p : ℕ) (c d : Box) → Q p c → limit ≤ p → pass rules records c ≡ whole d → (c ≡ d → ⊥) → P (stopped p d))
+    (breaks : (p k : ℕ) (c : Box) → Q p c → pass rules records c ≡ broken k → P (noTriple p k)) where
+  after : (g : Box → Ended) (p : ℕ) (c : Box) → Q p c → ((d : Box) → pass rules records c ≡ whole d → (c ≡ d → ⊥) → P (g d)) → P (runBy g p c (pass rules records c))
+  after g p c q more = go (pass rules records c) refl
     where
-      end : (d : Box) → pass f e sums c ≡ whole d → (t : Bool) → sameBox c d ≡ t → P (cond t (settled p d) (g d))
+      end : (d : Box) → pass rules records c ≡ whole d → (t : Bool) → sameBox c d ≡ t → P (cond t (settled p d) (g d))
       end d h true t =
           let z : c ≡ d = same-is c d t in
-          settles p d (subst (Q p) z q) (subst (λ (b : Box). pass f e sums b ≡ whole d) z h)
+          settles p d (subst (Q p) z q) (subst (λ (b : Box). pass rules records b ≡ whole d) z h)
       end d h false t = more d h (same-not c d t)
 
-      go : (r : Pass) → pass f e sums c ≡ r → P (runBy g p c r)
+      go : (r : Pass) → pass rules records c ≡ r → P (runBy g p c r)
       go (broken k) h = breaks p k c q h
       go (whole d) h = end d h (sameBox c d) refl
 
-  from : (more p : ℕ) (c : Box) → limit - p ≡ more → Q p c → P (runFrom f e sums more p c)
+  from : (more p : ℕ) (c : Box) → limit - p ≡ more → Q p c → P (runFrom rules records more p c)
   unfolding runFrom
   from zero p c l q = after (stopped p) p c q (λ d h m. stops p c d q (omega arith) h m)
-  from (suc more) p c l q = after (runFrom f e sums more (p + 1)) p c q (λ d h m. from more (p + 1) d (omega arith) (next p c d q (omega arith) h m))
+  from (suc more) p c l q = after (runFrom rules records more (p + 1)) p c q (λ d h m. from more (p + 1) d (omega arith) (next p c d q (omega arith) h m))
 
-  pub run-ends : (first : Box) → Q 1 first → P (run f e sums limit first)
+  pub run-ends : (first : Box) → Q 1 first → P (run rules records limit first)
   run-ends first q = from (limit - 1) 1 first refl q
 
 -- the same where Q is of the box alone
-module _ (f e : ℕ) (sums : List Record) (Q : Box → Type 0) (P : Ended → Type 0)
-    (next : (c d : Box) → Q c → pass f e sums c ≡ whole d → Q d)
-    (settles : (p : ℕ) (c : Box) → Q c → pass f e sums c ≡ whole c → P (settled p c))
+module _ (rules : Rules) (records : List Record) (Q : Box → Type 0) (P : Ended → Type 0)
+    (next : (c d : Box) → Q c → pass rules records c ≡ whole d → Q d)
+    (settles : (p : ℕ) (c : Box) → Q c → pass rules records c ≡ whole c → P (settled p c))
     (stops : (p : ℕ) (c : Box) → Q c → P (stopped p c))
-    (breaks : (p k : ℕ) (c : Box) → Q c → pass f e sums c ≡ broken k → P (noTriple p k)) where
-  pub run-all : (limit : ℕ) (first : Box) → Q first → P (run f e sums limit first)
+    (breaks : (p k : ℕ) (c : Box) → Q c → pass rules records c ≡ broken k → P (noTriple p k)) where
+  pub run-all : (limit : ℕ) (first : Box) → Q first → P (run rules records limit first)
   run-all limit first =
-      run-ends f e sums limit (λ p c. Q c) P
+      run-ends rules records limit (λ p c. Q c) P
       (λ p c d q l h m. next c d q h)
       settles
       (λ p c d q l h m. stops p d (next c d q h))

@@ -1,4 +1,4 @@
--- A sheet that the test lets pass, tidied: its cells stand for the same box, its sums are the same, and a run may start from it.
+-- A sheet that the test lets pass, tidied: its cells stand for the same box, its records are the same, and a run may start from it.
 -- Assumes nothing.
 use mathlib.Core.Path.{_≡_, refl, sym, ap, ap₂, subst, _∙_}
 use mathlib.Core.Bool.{Bool, true, false, cond}
@@ -15,17 +15,18 @@ use Rattle.arith.proofs.Valid.{valid-bounded}
 use Rattle.sheet.specs.declared.kept.Record.{Record}
 use Rattle.sheet.specs.declared.kept.Sheet.{Sheet}
 use Rattle.sheet.specs.declared.kept.Answer.the-variants.{Done}
-use Rattle.sheet.specs.Cells.{fractionOf, exponentOf, ordinalsOf, patternsOf, boxOf}
-use Rattle.sheet.specs.Faults.{headFault, cellFault, sumFault}
-use Rattle.sheet.specs.Sheets.{noCell, noSum, filled, places, usedCells, usedSums, tidied, testOf}
-use Rattle.sheet.specs.Boxes.{Box, at, Proper, IsBox, Names}
+use Rattle.sheet.specs.Cells.{fractionOf, exponentOf, rulesOf, ordinalsOf, patternsOf, boxOf}
+use Rattle.sheet.specs.Faults.{headFault, cellFault, recordFault}
+use Rattle.sheet.specs.Sheets.{noCell, noRecord, filled, places, usedCells, usedRecords, tidied, testOf}
+use Rattle.sheet.specs.Boxes.{Box, at, Proper, IsBox}
+use Rattle.sheet.specs.Records.{Names}
 use Rattle.sheet.specs.Runs.{run}
 use Rattle.sheet.specs.Loops.{boxIn, Shows, Ready}
 use Rattle.sheet.specs.Narrowings.{endOf}
 use Rattle.sheet.proofs.Answers.{AllGood, all-good}
 use Rattle.sheet.proofs.Firsts.{faultless-at}
 use Rattle.sheet.proofs.Cells.{fault-free}
-use Rattle.sheet.proofs.Sums.{names-of}
+use Rattle.sheet.proofs.Records.{names-of}
 use Rattle.sheet.proofs.Places.{getD-under, box-found, places-show}
 
 -- a head without a fault: a known width, and a limit from 1 to 65,535
@@ -48,54 +49,54 @@ good-head width limit = go (isKnown width) refl (ltb limit 1) refl (ltb 65535 li
         record { known = p; some = omega arith; few = omega arith }
 
 -- ---- the sheet's lists are as long as its arrays
-module _ (s : Sheet) (cells-long : length (s .cells) ≡ 64) (sums-long : length (s .sums) ≡ 128) (t : testOf s ≡ Done) where
-  seen : AllGood (s .width) (s .limit) (s .«cell_count») (s .«sum_count») (usedCells s) (usedSums s)
-  seen = all-good (s .width) (s .limit) (s .«cell_count») (s .«sum_count») (usedCells s) (usedSums s) t
+module _ (s : Sheet) (cells-long : length (s .cells) ≡ 64) (records-long : length (s .records) ≡ 128) (t : testOf s ≡ Done) where
+  seen : AllGood (s .width) (s .limit) (s .«cell_count») (s .«record_count») (usedCells s) (usedRecords s)
+  seen = all-good (s .width) (s .limit) (s .«cell_count») (s .«record_count») (usedCells s) (usedRecords s) t
 
   head : GoodHead (s .width) (s .limit)
   head = good-head (s .width) (s .limit) (seen .head)
 
-  pub used : length (usedCells s) ≡ s .«cell_count»
-  used =
+  pub cells-counted : length (usedCells s) ≡ s .«cell_count»
+  cells-counted =
       let l = seen .few-cells in
       length-take-le (s .«cell_count») (s .cells) (omega arith)
 
-  pub named : length (usedSums s) ≡ s .«sum_count»
-  named =
-      let l = seen .few-sums in
-      length-take-le (s .«sum_count») (s .sums) (omega arith)
+  pub records-counted : length (usedRecords s) ≡ s .«record_count»
+  records-counted =
+      let l = seen .few-records in
+      length-take-le (s .«record_count») (s .records) (omega arith)
 
   -- the cells in use stand for a box
   pub first-box : IsBox (fractionOf (s .width)) (exponentOf (s .width)) (s .«cell_count») (boxOf (s .width) (usedCells s))
-  first-box = record { cells = length-map (usedCells s) (ordinalsOf (s .width)) ∙ used; proper = proper }
+  first-box = record { cells = length-map (usedCells s) (ordinalsOf (s .width)) ∙ cells-counted; proper = proper }
     where
       proper : (i : ℕ) → i < s .«cell_count» → Proper (fractionOf (s .width)) (exponentOf (s .width)) (at (boxOf (s .width) (usedCells s)) i)
       proper i l =
-          let u = used in
+          let u = cells-counted in
           let m = seen .few-cells in
           let z = faultless-at (cellFault (s .width)) noCell (s .cells) (s .«cell_count») i (omega arith) (seen .cells-good) l in
           let g = valid-bounded (s .width) (getD (s .cells) i noCell) (fault-free (s .width) (getD (s .cells) i noCell) z) in
           let e : at (boxOf (s .width) (usedCells s)) i ≡ ordinalsOf (s .width) (getD (s .cells) i noCell) = getD-under (ordinalsOf (s .width)) (usedCells s) i noCell _ (omega arith) ∙ ap (ordinalsOf (s .width)) (getD-take (s .«cell_count») (s .cells) i noCell l) in
           rw e (record { low = g .0 .low; high = g .0 .high; order = g .1 })
 
-  -- its sums name cells of the box
-  pub sums-name : (k : ℕ) → k < s .«sum_count» → Names (s .«cell_count») (getD (s .sums) k noSum)
-  sums-name k l =
-      let m = seen .few-sums in
-      names-of (s .«cell_count») (getD (s .sums) k noSum) (faultless-at (sumFault (s .«cell_count»)) noSum (s .sums) (s .«sum_count») k (omega arith) (seen .sums-good) l)
+  -- its records name cells of the box
+  pub records-name : (k : ℕ) → k < s .«record_count» → Names (s .«cell_count») (getD (s .records) k noRecord)
+  records-name k l =
+      let m = seen .few-records in
+      names-of (s .«cell_count») (getD (s .records) k noRecord) (faultless-at (recordFault (s .«cell_count»)) noRecord (s .records) (s .«record_count») k (omega arith) (seen .records-good) l)
 
   -- ---- tidied
   tidied-cells : tidied s .cells ≡ places (s .width) (s .«cell_count») (boxOf (s .width) (usedCells s))
   unfolding tidied
   tidied-cells = ap (λ (l : List Interval). filled 64 noCell l (s .«cell_count»)) (sym (map-map (patternsOf (s .width)) (ordinalsOf (s .width)) (usedCells s)))
 
-  tidied-sums : usedSums (tidied s) ≡ usedSums s
+  tidied-records : usedRecords (tidied s) ≡ usedRecords s
   unfolding tidied
-  tidied-sums = take-at (usedSums s) (replicate (128 - s .«sum_count») noSum) (s .«sum_count») named
+  tidied-records = take-at (usedRecords s) (replicate (128 - s .«record_count») noRecord) (s .«record_count») records-counted
 
-  pub tidied-sum : (k : ℕ) → k < s .«sum_count» → getD (tidied s .sums) k noSum ≡ getD (s .sums) k noSum
+  pub tidied-record : (k : ℕ) → k < s .«record_count» → getD (tidied s .records) k noRecord ≡ getD (s .records) k noRecord
   unfolding tidied
-  tidied-sum k l = sym (getD-take (s .«sum_count») (tidied s .sums) k noSum l) ∙ ap (λ (r : List Record). getD r k noSum) tidied-sums ∙ getD-take (s .«sum_count») (s .sums) k noSum l
+  tidied-record k l = sym (getD-take (s .«record_count») (tidied s .records) k noRecord l) ∙ ap (λ (r : List Record). getD r k noRecord) tidied-records ∙ getD-take (s .«record_count») (s .records) k noRecord l
 
   tidied-box : boxOf (s .width) (take (s .«cell_count») (tidied s .cells)) ≡ boxOf (s .width) (usedCells s)
   tidied-box = ap (λ (l : List Interval). boxIn (s .width) (s .«cell_count») l) tidied-cells ∙ box-found (s .width) (s .«cell_count») (boxOf (s .width) (usedCells s)) first-box
@@ -103,7 +104,7 @@ module _ (s : Sheet) (cells-long : length (s .cells) ≡ 64) (sums-long : length
   -- the run is the same
   pub tidied-end : endOf (tidied s) ≡ endOf s
   unfolding tidied
-  tidied-end = ap₂ (λ (l : List Record) (b : Box). run (fractionOf (s .width)) (exponentOf (s .width)) l (s .limit) b) tidied-sums tidied-box
+  tidied-end = ap₂ (λ (l : List Record) (b : Box). run (rulesOf (s .width)) l (s .limit) b) tidied-records tidied-box
 
   -- and may start
   pub tidied-ready : Ready (tidied s)
@@ -113,7 +114,7 @@ module _ (s : Sheet) (cells-long : length (s .cells) ≡ 64) (sums-long : length
     some = head .some;
     passes = head .few;
     few-cells = seen .few-cells;
-    few-sums = seen .few-sums;
-    names = λ k l. rw (tidied-sum k l) (sums-name k l);
+    few-records = seen .few-records;
+    names = λ k l. rw (tidied-record k l) (records-name k l);
     shows = subst (Shows (s .width) (s .«cell_count»)) (sym tidied-cells) (places-show (s .width) (s .«cell_count») (boxOf (s .width) (usedCells s)) first-box);
   }

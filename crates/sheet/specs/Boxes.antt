@@ -1,12 +1,10 @@
 -- 01's boxes, by ordinals, and when one contains another. Assumes nothing.
 use mathlib.Core.Path.{_≡_}
-use mathlib.Core.Logic.{_≢_}
 use mathlib.Core.List.{List}
 use Prim.Native.Nat.{ℕ, _<_, _≤_}
 use lib.ListN.{length, getD}
 use Rattle.ladder.specs.Ordinal.{Finite}
 use Rattle.ladder.specs.Solution.{Interval}
-use Rattle.sheet.specs.declared.kept.Record.{Record}
 
 -- 01's box: for each cell, in their order, the ordinals of its ends
 abbrev pub Box : Type 0
@@ -36,12 +34,3 @@ pub record Inside (J I : Interval) : Type 0 where
 pub record Contains (outer inner : Box) : Type 0 where
   pub cells : length inner ≡ length outer
   pub inside : (i : ℕ) → i < length outer → Inside (at outer i) (at inner i)
-
--- a sum over n cells: refusals 5 and 6 are for every other one
-pub record Names (n : ℕ) (r : Record) : Type 0 where
-  pub x-in : r .x < n
-  pub a-in : r .a < n
-  pub b-in : r .b < n
-  pub x-a : r .x ≢ r .a
-  pub x-b : r .x ≢ r .b
-  pub a-b : r .a ≢ r .b

@@ -6,6 +6,7 @@ use Rattle.arith.specs.declared.interval.Interval.{Interval}
 use Rattle.arith.specs.Formats.{formatOf}
 use Rattle.arith.specs.Intervals.{rangeOf, span}
 use Rattle.arith.specs.Narrows.{written}
+use Rattle.sheet.specs.Records.{Rules, fits}
 use Rattle.sheet.specs.Boxes.{Box}
 
 -- the width's fraction bits
@@ -15,6 +16,10 @@ fractionOf width = formatOf width .fraction
 -- and its exponent bits
 abbrev pub exponentOf : ℕ → ℕ
 exponentOf width = formatOf width .exponent
+
+-- the width's rules
+abbrev pub rulesOf : ℕ → Rules
+rulesOf width = fits (fractionOf width) (exponentOf width)
 
 -- a cell by the ordinals of its ends
 abbrev pub ordinalsOf : ℕ → Interval → L.Interval

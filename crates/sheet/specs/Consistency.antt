@@ -1,46 +1,54 @@
--- 01's steady box, the consistent box of constraint propagation, and demand 3. Assumes nothing.
+-- 01's steady box, the consistent box of constraint propagation, for records of every kind, and demand 3. Assumes nothing.
 use mathlib.Core.Path.{_≡_}
+use mathlib.Core.Bool.{true}
 use mathlib.Core.List.{List}
 use Prim.Native.Nat.{ℕ, _<_}
-use lib.ListN.{length, getD}
-use Rattle.ladder.specs.Narrowing.{HasX, HasA, HasB}
+use lib.ListN.{length}
+use Rattle.ladder.specs.Solution.{In}
+use Rattle.sheet.specs.Members.{Each}
+use Rattle.sheet.specs.Records.{named, Values, Rules, fits}
 use Rattle.sheet.specs.declared.kept.Record.{Record}
-use Rattle.sheet.specs.Boxes.{Box, at, IsBox, Contains, Names}
-use Rattle.sheet.specs.Sheets.{noSum}
+use Rattle.sheet.specs.Boxes.{Box, at, IsBox, Contains}
 
--- each sum of a sheet has the property
-abbrev pub Each : (Record → Type 0) → List Record → Type 0
-Each P sums = (k : ℕ) → k < length sums → P (getD sums k noSum)
-
--- 01: each sum names three cells, all different, of the n that there are (else refusal 5 or 6)
+-- the cells that each record names are among the n that there are (else refusal 5)
 abbrev pub AllNames : ℕ → List Record → Type 0
-AllNames n sums = Each (Names n) sums
+AllNames n records = Each (λ r. Each (λ i. i < n) (named r)) records
 
--- each end of the sum's three intervals stands in a triple of that sum inside the box
-pub record Stands (f e : ℕ) (box : Box) (r : Record) : Type 0 where
-  pub x-low : HasX f e (at box (r .x)) (at box (r .a)) (at box (r .b)) (at box (r .x) .low)
-  pub x-high : HasX f e (at box (r .x)) (at box (r .a)) (at box (r .b)) (at box (r .x) .high)
-  pub a-low : HasA f e (at box (r .x)) (at box (r .a)) (at box (r .b)) (at box (r .a) .low)
-  pub a-high : HasA f e (at box (r .x)) (at box (r .a)) (at box (r .b)) (at box (r .a) .high)
-  pub b-low : HasB f e (at box (r .x)) (at box (r .a)) (at box (r .b)) (at box (r .b) .low)
-  pub b-high : HasB f e (at box (r .x)) (at box (r .a)) (at box (r .b)) (at box (r .b) .high)
+-- 01's triple, 02's pair: values of the record's cells, each inside its interval, that fit it
+pub record Solution (rules : Rules) (box : Box) (r : Record) (v : Values) : Type 0 where
+  pub inside : Each (λ i. In (at box i) (v i)) (named r)
+  pub fits : rules r v ≡ true
 
--- 01's steady box: so for every sum
-abbrev pub Consistent : ℕ → ℕ → List Record → Box → Type 0
-Consistent f e sums box = Each (Stands f e box) sums
+-- y stands at cell i in a solution of the record inside the box
+pub record Has (rules : Rules) (box : Box) (r : Record) (i y : ℕ) : Type 0 where
+  pub values : Values
+  pub is : values i ≡ y
+  pub solution : Solution rules box r values
+
+-- both ends of cell i stand in a solution
+abbrev pub EndsStand : Rules → Box → Record → ℕ → Type 0
+EndsStand rules box r i = Has rules box r i (at box i .low) × Has rules box r i (at box i .high)
+
+-- so do those of each cell that the record names
+abbrev pub Stands : Rules → Box → Record → Type 0
+Stands rules box r = Each (EndsStand rules box r) (named r)
+
+-- 01's steady box: so for every record
+abbrev pub Consistent : Rules → List Record → Box → Type 0
+Consistent rules records box = Each (Stands rules box) records
 
 -- a consistent box that the first one contains
-pub record ConsistentIn (f e : ℕ) (sums : List Record) (first box : Box) : Type 0 where
+pub record ConsistentIn (f e : ℕ) (records : List Record) (first box : Box) : Type 0 where
   pub is : IsBox f e (length first) box
   pub inside : Contains first box
-  pub consistent : Consistent f e sums box
+  pub consistent : Consistent (fits f e) records box
 
 -- a box contains every consistent box within the first
 abbrev pub ContainsAll : ℕ → ℕ → List Record → Box → Box → Type 0
-ContainsAll f e sums first last = (box : Box) → ConsistentIn f e sums first box → Contains last box
+ContainsAll f e records first last = (box : Box) → ConsistentIn f e records first box → Contains last box
 
 -- demand 3, on the whole run from the box first given to the last one, by 01's number for how it ended
-pub record Demand3 (f e : ℕ) (sums : List Record) (first last : Box) (number : ℕ) : Type 0 where
-  pub settled : number ≡ 0 → ConsistentIn f e sums first last × ContainsAll f e sums first last
-  pub stopped : number ≡ 12 → ContainsAll f e sums first last
-  pub none : number ≡ 11 → (box : Box) → ConsistentIn f e sums first box → ⊥
+pub record Demand3 (f e : ℕ) (records : List Record) (first last : Box) (number : ℕ) : Type 0 where
+  pub settled : number ≡ 0 → ConsistentIn f e records first last × ContainsAll f e records first last
+  pub stopped : number ≡ 12 → ContainsAll f e records first last
+  pub none : number ≡ 11 → (box : Box) → ConsistentIn f e records first box → ⊥

@@ -1,4 +1,4 @@
--- What is wrong with a sheet's head, a cell or a sum, by 01's refusal number, 0 for nothing. Opening, adding and testing follow this order. Assumes nothing.
+-- What is wrong with a sheet's head, a cell or a record, by 01's refusal number, 0 for nothing. Opening, adding and testing follow this order. Assumes nothing.
 use mathlib.Core.Bool.{cond}
 use Prim.Native.Nat.{ℕ}
 use lib.Dec.{ltb, leb, eqb}
@@ -25,12 +25,27 @@ imageNumber i = imageTold i .number
 unfoldable pub cellFault : ℕ → Interval → ℕ
 cellFault width cell = imageNumber (canonicalOf width cell)
 
--- a sum over n cells: 5 for a cell the sheet has not got; 6 for one named twice
-unfoldable pub sumFault : ℕ → Record → ℕ
-sumFault n r =
-    cond (leb n (r .x)) 5
-    (cond (leb n (r .a)) 5
-    (cond (leb n (r .b)) 5
-    (cond (eqb (r .x) (r .a)) 6
-    (cond (eqb (r .x) (r .b)) 6
-    (cond (eqb (r .a) (r .b)) 6 0)))))
+-- three cells of n: 5 for one the sheet has not got; 6 for one named twice
+unfoldable pub tripleFault : ℕ → ℕ → ℕ → ℕ → ℕ
+tripleFault n x a b =
+    cond (leb n x) 5
+    (cond (leb n a) 5
+    (cond (leb n b) 5
+    (cond (eqb x a) 6
+    (cond (eqb x b) 6
+    (cond (eqb a b) 6 0)))))
+
+-- two cells of n: the same
+unfoldable pub pairFault : ℕ → ℕ → ℕ → ℕ
+pairFault n x a =
+    cond (leb n x) 5
+    (cond (leb n a) 5
+    (cond (eqb x a) 6 0))
+
+-- a record over n cells: 4 for a kind that is none of 0, 1, 2, and for a neg whose third number is not 0; then 5 and 6 for the cells that it names
+unfoldable pub recordFault : ℕ → Record → ℕ
+recordFault n r =
+    cond (ltb 2 (r .kind)) 4
+    (cond (eqb (r .kind) 2)
+    (cond (eqb (r .b) 0) (pairFault n (r .x) (r .a)) 4)
+    (tripleFault n (r .x) (r .a) (r .b)))

@@ -1,3 +1,5 @@
+pub mod Members
+pub mod Records
 pub mod Faults
 pub mod Boxes
 pub mod Cells
@@ -6,6 +8,7 @@ pub mod Replies
 pub mod Runs
 pub mod Consistency
 pub mod Outcomes
+pub mod RecordSteps
 pub mod Loops
 pub mod Narrowings
 pub mod Loading

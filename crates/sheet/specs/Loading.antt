@@ -1,4 +1,4 @@
--- The walk between lent lists and a sheet: cells and sums put into its places, cells stored back. Assumes nothing.
+-- The walk between lent lists and a sheet: cells and records put into its places, cells stored back. Assumes nothing.
 use mathlib.Core.List.{List}
 use Prim.Native.Nat.{ℕ, zero, suc, min}
 use lib.ListN.{length, getD, set}
@@ -7,23 +7,23 @@ use Rattle.sheet.specs.declared.kept.Record.{Record}
 use Rattle.sheet.specs.declared.kept.Sheet.{Sheet}
 use Rattle.sheet.specs.declared.passes.Outcome.{Outcome}
 use Rattle.sheet.specs.declared.passes.Outcome.the-variants.{Settled, NoTriple, Stopped, Refused}
-use Rattle.sheet.specs.Sheets.{noCell, noSum, blank, withCells}
+use Rattle.sheet.specs.Sheets.{noCell, noRecord, blank, withCells}
 
 -- a list with the first n members of another in its first places, put one by one
 abbrev pub puts : {A : Type 0} → A → List A → ℕ → List A → List A
 puts d from zero to = to
 puts d from (suc k) to = set (puts d from k to) k (getD from k d)
 
--- a sheet with other sums
-abbrev pub withSums : Sheet → List Record → Sheet
-withSums s sums =
+-- a sheet with other records
+abbrev pub withRecords : Sheet → List Record → Sheet
+withRecords s records =
     record {
       width = s .width;
       limit = s .limit;
       «cell_count» = s .«cell_count»;
-      «sum_count» = s .«sum_count»;
+      «record_count» = s .«record_count»;
       cells = s .cells;
-      sums = sums;
+      records = records;
     }
 
 -- a sheet with other counts
@@ -33,18 +33,18 @@ withCounts s n m =
       width = s .width;
       limit = s .limit;
       «cell_count» = n;
-      «sum_count» = m;
+      «record_count» = m;
       cells = s .cells;
-      sums = s .sums;
+      records = s .records;
     }
 
 -- the sheet with the first n cells of a list
 abbrev pub loadedCells : List Interval → ℕ → Sheet → Sheet
 loadedCells cells n s = withCells s (puts noCell cells n (s .cells))
 
--- the sheet with the first n sums of a list
-abbrev pub loadedSums : List Record → ℕ → Sheet → Sheet
-loadedSums sums n s = withSums s (puts noSum sums n (s .sums))
+-- the sheet with the first n records of a list
+abbrev pub loadedRecords : List Record → ℕ → Sheet → Sheet
+loadedRecords records n s = withRecords s (puts noRecord records n (s .records))
 
 -- the list with the first n cells of a sheet
 abbrev pub storedCells : List Interval → ℕ → Sheet → List Interval
@@ -53,13 +53,13 @@ storedCells cells n s = puts noCell (s .cells) n cells
 -- how many of n cells are stored back: all where the run settled or stopped, else none
 abbrev pub storedCount : Outcome → ℕ → ℕ
 storedCount (Settled passes) n = n
-storedCount (NoTriple pass sum) n = 0
+storedCount (NoTriple pass k) n = 0
 storedCount (Stopped passes) n = n
 storedCount (Refused r) n = 0
 
--- the sheet that two lists make: their lengths as its counts, and as many cells and sums as it has places for
+-- the sheet that two lists make: their lengths as its counts, and as many cells and records as it has places for
 unfoldable pub sheetOf : ℕ → ℕ → List Interval → List Record → Sheet
-sheetOf width limit cells sums =
-    loadedSums sums (min (length sums) 128)
+sheetOf width limit cells records =
+    loadedRecords records (min (length records) 128)
     (loadedCells cells (min (length cells) 64)
-    (withCounts (blank width limit) (length cells) (length sums)))
+    (withCounts (blank width limit) (length cells) (length records)))

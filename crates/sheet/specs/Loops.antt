@@ -10,8 +10,9 @@ use Rattle.sheet.specs.declared.kept.Sheet.{Sheet}
 use Rattle.sheet.specs.declared.passes.Outcome.the-variants.{Settled, NoTriple, Stopped}
 use Rattle.sheet.specs.declared.passes.Halted.{Halted}
 use Rattle.sheet.specs.Cells.{fractionOf, exponentOf, boxOf}
-use Rattle.sheet.specs.Sheets.{noSum, places}
-use Rattle.sheet.specs.Boxes.{Box, IsBox, Names}
+use Rattle.sheet.specs.Sheets.{noRecord, places}
+use Rattle.sheet.specs.Boxes.{Box, IsBox}
+use Rattle.sheet.specs.Records.{Names}
 use Rattle.sheet.specs.Runs.{Ended, settled, stopped, noTriple}
 
 -- ---- cells and boxes
@@ -30,14 +31,14 @@ pub record Compares (t : Bool) (p q : List Interval) : Type 0 where
   pub same : t ≡ true → p ≡ q
   pub differ : t ≡ false → p ≡ q → ⊥
 
--- a sheet that the run may start from: its cells stand for a box, and its sums name cells of it
+-- a sheet that the run may start from: its cells stand for a box, and its records name cells of it
 pub record Ready (s : Sheet) : Type 0 where
   pub known : isKnown (s .width) ≡ true
   pub some : 1 ≤ s .limit
   pub passes : s .limit ≤ 65535
   pub few-cells : s .«cell_count» ≤ 64
-  pub few-sums : s .«sum_count» ≤ 128
-  pub names : (k : ℕ) → k < s .«sum_count» → Names (s .«cell_count») (getD (s .sums) k noSum)
+  pub few-records : s .«record_count» ≤ 128
+  pub names : (k : ℕ) → k < s .«record_count» → Names (s .«cell_count») (getD (s .records) k noRecord)
   pub shows : Shows (s .width) (s .«cell_count») (s .cells)
 
 -- what the loops leave, by how the run ends; under 'no triple' the cells are of no use

@@ -9,29 +9,29 @@ use Rattle.sheet.specs.declared.kept.Answer.the-variants as Answer
 use Rattle.sheet.specs.declared.passes.Outcome.{Outcome}
 use Rattle.sheet.specs.declared.passes.Outcome.the-variants.{Settled, NoTriple, Stopped, Refused}
 use Rattle.sheet.specs.declared.narrowing.Run.{Run}
-use Rattle.sheet.specs.Sheets.{places, usedCells, usedSums, tidied, withCells, testOf}
+use Rattle.sheet.specs.Sheets.{places, usedCells, usedRecords, tidied, withCells, testOf}
 use Rattle.sheet.specs.Boxes.{Box}
 use Rattle.sheet.specs.Runs.{Ended, settled, stopped, noTriple, run, leftBy, endNumber, endValues}
 use Rattle.sheet.specs.Consistency.{Demand3}
-use Rattle.sheet.specs.Cells.{fractionOf, exponentOf, boxOf}
+use Rattle.sheet.specs.Cells.{fractionOf, exponentOf, rulesOf, boxOf}
 
 -- 01's number of each case: 0 where nothing is refused
 abbrev pub outcomeNumber : Outcome → ℕ
 outcomeNumber (Settled passes) = 0
-outcomeNumber (NoTriple pass sum) = 11
+outcomeNumber (NoTriple pass k) = 11
 outcomeNumber (Stopped passes) = 12
 outcomeNumber (Refused r) = r .number
 
--- 01's values of each case: the passes made; pass and sum; the passes; the place
+-- 01's values of each case: the passes made; pass and record; the passes; the place
 abbrev pub outcomeValues : Outcome → List ℕ
 outcomeValues (Settled passes) = passes ∷ []
-outcomeValues (NoTriple pass sum) = pass ∷ sum ∷ []
+outcomeValues (NoTriple pass k) = pass ∷ k ∷ []
 outcomeValues (Stopped passes) = passes ∷ []
 outcomeValues (Refused r) = r .place ∷ []
 
 -- the run of a sheet, from the cells in use
 abbrev pub endOf : Sheet → Ended
-endOf s = run (fractionOf (s .width)) (exponentOf (s .width)) (usedSums s) (s .limit) (boxOf (s .width) (usedCells s))
+endOf s = run (rulesOf (s .width)) (usedRecords s) (s .limit) (boxOf (s .width) (usedCells s))
 
 -- the sheet with a box in its cells, each end in its one pattern, unused places zero
 abbrev pub withBox : Sheet → Box → Sheet
@@ -63,5 +63,5 @@ pub record Narrows (s : Sheet) (r : Run) : Type 0 where
   pub refused : (t : Refusal) → testOf s ≡ Answer.Refused t → (outcomeNumber (r .outcome) ≡ t .number) × (outcomeValues (r .outcome) ≡ t .place ∷ [])
   pub kept : (outcomeNumber (r .outcome) ≡ 0 → ⊥) → (outcomeNumber (r .outcome) ≡ 12 → ⊥) → r .sheet ≡ s
   pub demand3 :
-      Demand3 (fractionOf (s .width)) (exponentOf (s .width)) (usedSums s)
+      Demand3 (fractionOf (s .width)) (exponentOf (s .width)) (usedRecords s)
       (boxOf (s .width) (usedCells s)) (boxOf (s .width) (usedCells (r .sheet))) (outcomeNumber (r .outcome))

@@ -1,4 +1,4 @@
--- When a run ends as it does, pass by pass; and 01's cells that no sum names. Assumes nothing.
+-- When a run ends as it does, pass by pass; and 01's cells that no record names. Assumes nothing.
 use mathlib.Core.Path.{_≡_}
 use mathlib.Core.Logic.{_≢_}
 use mathlib.Core.List.{List}
@@ -6,40 +6,35 @@ use Prim.Native.Nat.{ℕ, _+_, _≤_}
 use Rattle.sheet.specs.declared.kept.Record.{Record}
 use Rattle.sheet.specs.Boxes.{Box}
 use Rattle.sheet.specs.Runs.{broken, whole, pass}
-use Rattle.sheet.specs.Consistency.{Each}
+use Rattle.sheet.specs.Members.{Each}
+use Rattle.sheet.specs.Records.{named, Rules}
 
 -- pass p begins with the box: every pass before it ran through and moved an end
-pub data Begins (f e : ℕ) (sums : List Record) (first : Box) : ℕ → Box → Type 0 where
-  start : Begins f e sums first 1 first
-  next : {p : ℕ} {box new : Box} → Begins f e sums first p box → pass f e sums box ≡ whole new → (box ≡ new → ⊥) → Begins f e sums first (p + 1) new
+pub data Begins (rules : Rules) (records : List Record) (first : Box) : ℕ → Box → Type 0 where
+  start : Begins rules records first 1 first
+  next : {p : ℕ} {box new : Box} → Begins rules records first p box → pass rules records box ≡ whole new → (box ≡ new → ⊥) → Begins rules records first (p + 1) new
 
 -- an allowed pass is the first to run through and move no end
-pub record Settles (f e : ℕ) (sums : List Record) (limit : ℕ) (first : Box) (p : ℕ) (box : Box) : Type 0 where
+pub record Settles (rules : Rules) (records : List Record) (limit : ℕ) (first : Box) (p : ℕ) (box : Box) : Type 0 where
   pub allowed : p ≤ limit
-  pub begins : Begins f e sums first p box
-  pub still : pass f e sums box ≡ whole box
+  pub begins : Begins rules records first p box
+  pub still : pass rules records box ≡ whole box
 
 -- every allowed pass ran through and moved an end
-pub record Stops (f e : ℕ) (sums : List Record) (limit : ℕ) (first : Box) (p : ℕ) (box : Box) : Type 0 where
+pub record Stops (rules : Rules) (records : List Record) (limit : ℕ) (first : Box) (p : ℕ) (box : Box) : Type 0 where
   pub before : Box
   pub last : p ≡ limit
-  pub begins : Begins f e sums first p before
-  pub through : pass f e sums before ≡ whole box
+  pub begins : Begins rules records first p before
+  pub through : pass rules records before ≡ whole box
   pub moved : before ≡ box → ⊥
 
--- an allowed pass meets a sum with no triple
-pub record Breaks (f e : ℕ) (sums : List Record) (limit : ℕ) (first : Box) (p k : ℕ) : Type 0 where
+-- an allowed pass meets a record with no solution
+pub record Breaks (rules : Rules) (records : List Record) (limit : ℕ) (first : Box) (p k : ℕ) : Type 0 where
   pub before : Box
   pub allowed : p ≤ limit
-  pub begins : Begins f e sums first p before
-  pub breaks : pass f e sums before ≡ broken k
+  pub begins : Begins rules records first p before
+  pub breaks : pass rules records before ≡ broken k
 
--- the sum does not name cell i
-pub record Spares (i : ℕ) (r : Record) : Type 0 where
-  pub x : i ≢ r .x
-  pub a : i ≢ r .a
-  pub b : i ≢ r .b
-
--- 01: no sum names cell i
+-- 01: no record names cell i
 abbrev pub Unnamed : ℕ → List Record → Type 0
-Unnamed i sums = Each (Spares i) sums
+Unnamed i records = Each (λ r. Each (λ j. i ≢ j) (named r)) records

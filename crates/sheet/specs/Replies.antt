@@ -12,8 +12,8 @@ use Rattle.sheet.specs.declared.kept.Sheet.{Sheet}
 use Rattle.sheet.specs.declared.kept.Answer.{Answer}
 use Rattle.sheet.specs.declared.kept.Answer.the-variants.{Done, Refused}
 use Rattle.sheet.specs.declared.kept.Kept.{Kept}
-use Rattle.sheet.specs.Faults.{headFault, cellFault, sumFault}
-use Rattle.sheet.specs.Sheets.{usedCells, usedSums}
+use Rattle.sheet.specs.Faults.{headFault, cellFault, recordFault}
+use Rattle.sheet.specs.Sheets.{usedCells, usedRecords}
 
 -- ---- tests
 -- a condition, with the number and the place of its refusal
@@ -33,25 +33,25 @@ allFaultless fault i (v ∷ vs) = faultless (fault v) i ∷ allFaultless fault (
 abbrev pub openTests : ℕ → ℕ → List Test
 openTests width limit = faultless (headFault width limit) 0 ∷ []
 
--- lists: 1; 7; 10 for the cells, then for the sums, at the first index too many; 2 and 3 cell by cell; 5 and 6 sum by sum
+-- lists: 1; 7; 10 for the cells, then for the records, at the first index too many; 2 and 3 cell by cell; 4, 5 and 6 record by record
 abbrev pub listTests : ℕ → ℕ → ℕ → ℕ → List Interval → List Record → List Test
-listTests width limit cellCount sumCount cells sums =
+listTests width limit cellCount recordCount cells records =
     openTests width limit ++
     testAt (leb cellCount 64) 10 64 ∷
-    testAt (leb sumCount 128) 10 128 ∷
-    (allFaultless (cellFault width) 0 cells ++ allFaultless (sumFault cellCount) 0 sums)
+    testAt (leb recordCount 128) 10 128 ∷
+    (allFaultless (cellFault width) 0 cells ++ allFaultless (recordFault cellCount) 0 records)
 
 -- a kept sheet handed in, in the order of lists
 abbrev pub sheetTests : Sheet → List Test
-sheetTests s = listTests (s .width) (s .limit) (s .«cell_count») (s .«sum_count») (usedCells s) (usedSums s)
+sheetTests s = listTests (s .width) (s .limit) (s .«cell_count») (s .«record_count») (usedCells s) (usedRecords s)
 
 -- adding a cell: the sheet's own tests; 2, 3, 10 at place 0
 abbrev pub addCellTests : Sheet → Interval → List Test
 addCellTests s cell = sheetTests s ++ faultless (cellFault (s .width) cell) 0 ∷ testAt (ltb (s .«cell_count») 64) 10 0 ∷ []
 
--- adding a sum: the sheet's own tests; 5, 6, 10 at place 0
-abbrev pub addSumTests : Sheet → Record → List Test
-addSumTests s sum = sheetTests s ++ faultless (sumFault (s .«cell_count») sum) 0 ∷ testAt (ltb (s .«sum_count») 128) 10 0 ∷ []
+-- adding a record: the sheet's own tests; 4, 5, 6, 10 at place 0
+abbrev pub addRecordTests : Sheet → Record → List Test
+addRecordTests s r = sheetTests s ++ faultless (recordFault (s .«cell_count») r) 0 ∷ testAt (ltb (s .«record_count») 128) 10 0 ∷ []
 
 -- ---- what each case tells
 -- an answer, with the values where nothing is refused

@@ -1,55 +1,79 @@
--- 01's step, pass and run over a box, exactly as 'The run, written out' has them, for the format with f fraction bits and e exponent bits. Assumes nothing.
+-- 01's step, pass and run over a box, exactly as 'The run, written out' has them, with 'record' for 'sum' (02), under any rules. Assumes nothing.
 use mathlib.Core.Bool.{Bool, true, false, cond, _&&_}
 use mathlib.Core.List.{List, [], _∷_}
 use Prim.Native.Nat.{ℕ, zero, suc, _+_, _-_}
 use lib.Dec.{eqb}
 use lib.ListN.{set}
 use Rattle.ladder.specs.Solution.{Interval}
-use Rattle.ladder.specs.Narrowing.{Narrowing, none, ends, narrowing}
+use Rattle.ladder.specs.Narrowing.{anyIn, Extent, empty, over, extentIn}
+use Rattle.sheet.specs.Records.{named, Values, Rules}
 use Rattle.sheet.specs.declared.kept.Record.{Record}
 use Rattle.sheet.specs.Boxes.{Box, at}
 
--- ---- one sum on the present box
--- that it has no triple there, or the box it leaves
+-- ---- the solutions of a record inside a box
+-- v with y at cell i
+abbrev pub assigned : Values → ℕ → ℕ → Values
+assigned v i y j = cond (eqb j i) y (v j)
+
+-- whether some values of these cells, each from its interval in the box, pass the test; the other cells have theirs in v, and a cell listed twice has its last one
+unfoldable pub someValues : Box → List ℕ → (Values → Bool) → Values → Bool
+someValues box [] t v = t v
+someValues box (i ∷ is) t v = anyIn (at box i) (λ y. someValues box is t (assigned v i y))
+
+-- whether the record has a solution inside the box: 01's triple, 02's pair
+unfoldable pub solvable : Rules → Box → Record → Bool
+solvable rules box r = someValues box (named r) (rules r) (λ _. 0)
+
+-- the box with cell i held at y
+abbrev pub held : Box → ℕ → ℕ → Box
+held box i y = set box i (record { low = y; high = y })
+
+-- from the least to the greatest value of cell i that stands in a solution: those at which the record still has one
+unfoldable pub standing : Rules → Box → Record → ℕ → Extent
+standing rules box r i = extentIn (at box i) (λ y. solvable rules (held box i y) r)
+
+-- ---- one record on the present box
+-- that it has no solution there, or the box it leaves
 pub data Step : Type 0 where
   unsolved : Step
   left : Box → Step
 
--- the sum's cells get these intervals
-abbrev pub put : Box → Record → Interval → Interval → Interval → Box
-put box r X A B = set (set (set box (r .x) X) (r .a) A) (r .b) B
+-- after a cell: there is no solution, or on to the next cell with what stands at this one
+abbrev pub stepBy : Extent → (Interval → Step) → Step
+stepBy empty next = unsolved
+stepBy (over I) next = next I
 
--- what the sum's narrowing makes of the box
-abbrev pub stepBy : Box → Record → Narrowing → Step
-stepBy box r none = unsolved
-stepBy box r (ends X A B) = left (put box r X A B)
+-- these cells of the record, one after the other: each gets the least and greatest value that stands at it in a solution inside the box
+unfoldable pub stepFrom : Rules → Box → Record → List ℕ → Box → Step
+stepFrom rules box r [] new = left new
+stepFrom rules box r (i ∷ is) new = stepBy (standing rules box r i) (λ I. stepFrom rules box r is (set new i I))
 
--- the least and greatest values standing in the sum's triples in the box
-unfoldable pub step : ℕ → ℕ → Box → Record → Step
-step f e box r = stepBy box r (narrowing f e (at box (r .x)) (at box (r .a)) (at box (r .b)))
+-- 01's step: every cell that the record names gets the least and greatest value that stands at it, or the record has no solution
+unfoldable pub step : Rules → Box → Record → Step
+step rules box r = stepFrom rules box r (named r) box
 
--- ---- a pass: each sum once, in sheet order, each on the box left by the one before
--- the number of the first sum without a triple, where it breaks off; or the box after the last sum
+-- ---- a pass: each record once, in sheet order, each on the box left by the one before
+-- the number of the first record without a solution, where it breaks off; or the box after the last record
 pub data Pass : Type 0 where
   broken : ℕ → Pass
   whole : Box → Pass
 
--- after a step of sum k: break off, or go on with the box it leaves
+-- after a step of record k: break off, or go on with the box it leaves
 abbrev pub passBy : Step → (Box → Pass) → ℕ → Pass
 passBy unsolved next k = broken k
 passBy (left box) next k = next box
 
--- the sums from number k on
-unfoldable pub passFrom : ℕ → ℕ → List Record → ℕ → Box → Pass
-passFrom f e [] k box = whole box
-passFrom f e (r ∷ rs) k box = passBy (step f e box r) (passFrom f e rs (k + 1)) k
+-- the records from number k on
+unfoldable pub passFrom : Rules → List Record → ℕ → Box → Pass
+passFrom rules [] k box = whole box
+passFrom rules (r ∷ rs) k box = passBy (step rules box r) (passFrom rules rs (k + 1)) k
 
--- a whole pass, from sum 0 on
-abbrev pub pass : ℕ → ℕ → List Record → Box → Pass
-pass f e sums box = passFrom f e sums 0 box
+-- a whole pass, from record 0 on
+abbrev pub pass : Rules → List Record → Box → Pass
+pass rules records box = passFrom rules records 0 box
 
 -- ---- the run
--- how it ends: settled, or stopped, at a pass, with the box; or at a pass and a sum without a triple
+-- how it ends: settled, or stopped, at a pass, with the box; or at a pass and a record without a solution
 pub data Ended : Type 0 where
   settled : ℕ → Box → Ended
   stopped : ℕ → Box → Ended
@@ -62,19 +86,19 @@ sameBox [] (J ∷ js) = false
 sameBox (I ∷ is) [] = false
 sameBox (I ∷ is) (J ∷ js) = eqb (I .low) (J .low) && (eqb (I .high) (J .high) && sameBox is js)
 
--- after pass p, which began with the box: a sum without a triple ends the run; equal, it ends settled; unequal, it goes on
+-- after pass p, which began with the box: a record without a solution ends the run; equal, it ends settled; unequal, it goes on
 abbrev pub runBy : (Box → Ended) → ℕ → Box → Pass → Ended
 runBy next p box (broken k) = noTriple p k
 runBy next p box (whole new) = cond (sameBox box new) (settled p new) (next new)
 
 -- pass p, and at most so many after it; unequal with none left, it ends stopped at p
-unfoldable pub runFrom : ℕ → ℕ → List Record → ℕ → ℕ → Box → Ended
-runFrom f e sums zero p box = runBy (stopped p) p box (pass f e sums box)
-runFrom f e sums (suc more) p box = runBy (runFrom f e sums more (p + 1)) p box (pass f e sums box)
+unfoldable pub runFrom : Rules → List Record → ℕ → ℕ → Box → Ended
+runFrom rules records zero p box = runBy (stopped p) p box (pass rules records box)
+runFrom rules records (suc more) p box = runBy (runFrom rules records more (p + 1)) p box (pass rules records box)
 
 -- the run from the box first given: passes count from 1 up to the limit (limit 0 is refusal 7)
-abbrev pub run : ℕ → ℕ → List Record → ℕ → Box → Ended
-run f e sums limit first = runFrom f e sums (limit - 1) 1 first
+abbrev pub run : Rules → List Record → ℕ → Box → Ended
+run rules records limit first = runFrom rules records (limit - 1) 1 first
 
 -- what a caller gets, made of the box that it leaves; under 'no triple' the caller keeps the old
 abbrev pub leftBy : {A : Type 0} → (Box → A) → A → Ended → A
@@ -94,7 +118,7 @@ endNumber (settled p box) = 0
 endNumber (stopped p box) = 12
 endNumber (noTriple p k) = 11
 
--- 01's values: the passes made; or pass and sum
+-- 01's values: the passes made; or pass and record
 abbrev pub endValues : Ended → List ℕ
 endValues (settled p box) = p ∷ []
 endValues (stopped p box) = p ∷ []

@@ -13,16 +13,16 @@ use Rattle.sheet.specs.declared.kept.Answer.the-variants.{Done, Refused}
 use Rattle.sheet.specs.declared.kept.Kept.{Kept}
 use Rattle.sheet.specs.Boxes.{Box}
 use Rattle.sheet.specs.Cells.{canonicalCell, cellsOf}
-use Rattle.sheet.specs.Faults.{headFault, cellFault, sumFault}
+use Rattle.sheet.specs.Faults.{headFault, cellFault, recordFault}
 
 -- ---- places
 -- what an unused place of a cell holds
 abbrev pub noCell : Interval
 noCell = record { low = 0; high = 0 }
 
--- and of a sum
-abbrev pub noSum : Record
-noSum = record { x = 0; a = 0; b = 0 }
+-- and of a record
+abbrev pub noRecord : Record
+noRecord = record { kind = 0; x = 0; a = 0; b = 0 }
 
 -- so many places, of which the first n hold a list, n its length, and the others v
 abbrev pub filled : {A : Type 0} → ℕ → A → List A → ℕ → List A
@@ -39,18 +39,18 @@ blank width limit =
       width = width;
       limit = limit;
       «cell_count» = 0;
-      «sum_count» = 0;
+      «record_count» = 0;
       cells = replicate 64 noCell;
-      sums = replicate 128 noSum;
+      records = replicate 128 noRecord;
     }
 
 -- the cells in use
 abbrev pub usedCells : Sheet → List Interval
 usedCells s = take (s .«cell_count») (s .cells)
 
--- the sums in use
-abbrev pub usedSums : Sheet → List Record
-usedSums s = take (s .«sum_count») (s .sums)
+-- the records in use
+abbrev pub usedRecords : Sheet → List Record
+usedRecords s = take (s .«record_count») (s .records)
 
 -- the sheet as a result has it: each end in its one pattern, unused places zero
 unfoldable pub tidied : Sheet → Sheet
@@ -59,9 +59,9 @@ tidied s =
       width = s .width;
       limit = s .limit;
       «cell_count» = s .«cell_count»;
-      «sum_count» = s .«sum_count»;
+      «record_count» = s .«record_count»;
       cells = filled 64 noCell (map (canonicalCell (s .width)) (usedCells s)) (s .«cell_count»);
-      sums = filled 128 noSum (usedSums s) (s .«sum_count»);
+      records = filled 128 noRecord (usedRecords s) (s .«record_count»);
     }
 
 -- the sheet with other cells
@@ -71,9 +71,9 @@ withCells s cells =
       width = s .width;
       limit = s .limit;
       «cell_count» = s .«cell_count»;
-      «sum_count» = s .«sum_count»;
+      «record_count» = s .«record_count»;
       cells = cells;
-      sums = s .sums;
+      records = s .records;
     }
 
 -- ---- answers
@@ -110,23 +110,23 @@ unfoldable pub firstFault : {A : Type 0} → (A → ℕ) → ℕ → List A → 
 firstFault fault i [] = Done
 firstFault fault i (v ∷ vs) = andThen (faultAt (fault v) i) (firstFault fault (i + 1) vs)
 
--- 1; 7; 10 for the cells, then for the sums, at the first index too many; 2 and 3 cell by cell; 5 and 6 sum by sum
+-- 1; 7; 10 for the cells, then for the records, at the first index too many; 2 and 3 cell by cell; 4, 5 and 6 record by record
 unfoldable pub testLists : ℕ → ℕ → ℕ → ℕ → List Interval → List Record → Answer
-testLists width limit cellCount sumCount cells sums =
+testLists width limit cellCount recordCount cells records =
     andThen (faultAt (headFault width limit) 0)
     (andThen (require (leb cellCount 64) 10 64)
-    (andThen (require (leb sumCount 128) 10 128)
+    (andThen (require (leb recordCount 128) 10 128)
     (andThen (firstFault (cellFault width) 0 cells)
-    (firstFault (sumFault cellCount) 0 sums))))
+    (firstFault (recordFault cellCount) 0 records))))
 
 -- the test of a kept sheet
 abbrev pub testOf : Sheet → Answer
-testOf s = testLists (s .width) (s .limit) (s .«cell_count») (s .«sum_count») (usedCells s) (usedSums s)
+testOf s = testLists (s .width) (s .limit) (s .«cell_count») (s .«record_count») (usedCells s) (usedRecords s)
 
 -- a sheet with all its places that passes the test
 pub record Sound (s : Sheet) : Type 0 where
   pub cells-long : length (s .cells) ≡ 64
-  pub sums-long : length (s .sums) ≡ 128
+  pub records-long : length (s .records) ≡ 128
   pub passes : testOf s ≡ Done
 
 -- ---- adding
@@ -141,21 +141,21 @@ withCell s cell =
       width = s .width;
       limit = s .limit;
       «cell_count» = s .«cell_count» + 1;
-      «sum_count» = s .«sum_count»;
+      «record_count» = s .«record_count»;
       cells = set (s .cells) (s .«cell_count») cell;
-      sums = s .sums;
+      records = s .records;
     }
 
--- the sheet with a sum more
-abbrev pub withSum : Sheet → Record → Sheet
-withSum s sum =
+-- the sheet with a record more
+abbrev pub withRecord : Sheet → Record → Sheet
+withRecord s r =
     record {
       width = s .width;
       limit = s .limit;
       «cell_count» = s .«cell_count»;
-      «sum_count» = s .«sum_count» + 1;
+      «record_count» = s .«record_count» + 1;
       cells = s .cells;
-      sums = set (s .sums) (s .«sum_count») sum;
+      records = set (s .records) (s .«record_count») r;
     }
 
 -- adding a cell: 2, 3, 10
@@ -165,9 +165,9 @@ addCellOf s cell =
     s
     (withCell (tidied s) (canonicalCell (s .width) cell))
 
--- adding a sum: 5, 6, 10
-unfoldable pub addSumOf : Sheet → Record → Kept
-addSumOf s sum =
-    keptBy (addTest (testOf s) (sumFault (s .«cell_count») sum) (ltb (s .«sum_count») 128))
+-- adding a record: 4, 5, 6, 10
+unfoldable pub addRecordOf : Sheet → Record → Kept
+addRecordOf s r =
+    keptBy (addTest (testOf s) (recordFault (s .«cell_count») r) (ltb (s .«record_count») 128))
     s
-    (withSum (tidied s) sum)
+    (withRecord (tidied s) r)

@@ -1,10 +1,10 @@
-// Adding a cell or a sum to a kept sheet.
+// Adding a cell or a record to a kept sheet.
 ghost use mathlib.Core.Path.{_≡_};
 ghost use Rattle.sheet.specs.Cells.{canonicalCell};
-ghost use Rattle.sheet.specs.Sheets.{tidied, withCell, withSum, addTest, addCellOf, addSumOf};
-ghost use Rattle.sheet.specs.Replies.{addCellTests, addSumTests, Keeps};
+ghost use Rattle.sheet.specs.Sheets.{tidied, withCell, withRecord, addTest, addCellOf, addRecordOf};
+ghost use Rattle.sheet.specs.Replies.{addCellTests, addRecordTests, Keeps};
 use crate::fault::cell_fault;
-use crate::fault::sum_fault;
+use crate::fault::record_fault;
 use crate::kept::Answer;
 use crate::kept::Kept;
 use crate::kept::Record;
@@ -51,20 +51,20 @@ pub fn add_cell(sheet: Sheet, cell: Interval) -> Kept
     }
 }
 
-// Adds a sum; refusals of the sheet, then 5, 6, 10.
-pub fn add_sum(sheet: Sheet, sum: Record) -> Kept
-    ensures { λ r. ⌜ r ≡ addSumOf sheet sum ⌝ }
-    ensures { λ r. ⌜ Keeps sheet (withSum (tidied sheet) sum) (addSumTests sheet sum) r ⌝ }
+// Adds a record; refusals of the sheet, then 4, 5, 6, 10.
+pub fn add_record(sheet: Sheet, record: Record) -> Kept
+    ensures { λ r. ⌜ r ≡ addRecordOf sheet «record» ⌝ }
+    ensures { λ r. ⌜ Keeps sheet (withRecord (tidied sheet) «record») (addRecordTests sheet «record») r ⌝ }
 {
-    let count = sheet.sum_count;
-    let fault = sum_fault(sheet.cell_count, sum);
+    let count = sheet.record_count;
+    let fault = record_fault(sheet.cell_count, record);
     let answer = test_addition(test_sheet(sheet), fault, count < 128);
     if let Answer::Refused(_) = answer {
         return Kept { sheet, answer };
     }
     let mut next = tidy(sheet);
-    next.sums[count as usize] = sum;
-    next.sum_count = count + 1;
+    next.records[count as usize] = record;
+    next.record_count = count + 1;
     Kept {
         sheet: next,
         answer,

@@ -1,6 +1,6 @@
-// What is wrong with a head, a cell or a sum: 0, or the refusal's number. The one place of their order.
+// What is wrong with a head, a cell or a record: 0, or the refusal's number. The one place of their order.
 ghost use mathlib.Core.Path.{_≡_};
-ghost use Rattle.sheet.specs.Faults.{headFault, cellFault, sumFault};
+ghost use Rattle.sheet.specs.Faults.{headFault, cellFault, tripleFault, pairFault, recordFault};
 use crate::kept::Record;
 use arith::format::known;
 use arith::interval::Image;
@@ -33,26 +33,58 @@ pub fn cell_fault(width: u64, cell: Interval) -> u64
 }
 
 // 0 for three cells that are there and differ, else 5 or 6.
-pub fn sum_fault(cell_count: u64, sum: Record) -> u64
-    ensures { λ r. ⌜ r ≡ sumFault «cell_count» sum ⌝ }
+fn triple_fault(cell_count: u64, x: u64, a: u64, b: u64) -> u64
+    ensures { λ r. ⌜ r ≡ tripleFault «cell_count» x a b ⌝ }
 {
-    if cell_count <= sum.x {
+    if cell_count <= x {
         return 5;
     }
-    if cell_count <= sum.a {
+    if cell_count <= a {
         return 5;
     }
-    if cell_count <= sum.b {
+    if cell_count <= b {
         return 5;
     }
-    if sum.x == sum.a {
+    if x == a {
         return 6;
     }
-    if sum.x == sum.b {
+    if x == b {
         return 6;
     }
-    if sum.a == sum.b {
+    if a == b {
         return 6;
     }
     0
+}
+
+// 0 for two cells that are there and differ, else 5 or 6.
+fn pair_fault(cell_count: u64, x: u64, a: u64) -> u64
+    ensures { λ r. ⌜ r ≡ pairFault «cell_count» x a ⌝ }
+{
+    if cell_count <= x {
+        return 5;
+    }
+    if cell_count <= a {
+        return 5;
+    }
+    if x == a {
+        return 6;
+    }
+    0
+}
+
+// 0 for a record of a known kind whose cells are there and differ, else 4, 5 or 6. The third number of a neg is 0, else 4, and names no cell.
+pub fn record_fault(cell_count: u64, record: Record) -> u64
+    ensures { λ r. ⌜ r ≡ recordFault «cell_count» «record» ⌝ }
+{
+    if 2 < record.kind {
+        return 4;
+    }
+    if record.kind == 2 {
+        if record.b != 0 {
+            return 4;
+        }
+        return pair_fault(cell_count, record.x, record.a);
+    }
+    triple_fault(cell_count, record.x, record.a, record.b)
 }

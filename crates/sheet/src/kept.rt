@@ -7,21 +7,22 @@ use arith::interval::Interval;
 use arith::refusal::Refusal;
 use arith::refusal::refuse;
 
-// A sum over cells, by their numbers: x + a = b.
+// A record over cells, by their numbers. Kind 0 is a sum, x + a = b; kind 1 a diff, x + (-a) = b; kind 2 a neg, a = -x, whose b is 0 and names no cell.
 pub struct Record {
+    pub kind: u64,
     pub x: u64,
     pub a: u64,
     pub b: u64,
 }
 
-// A sheet. The first cell_count cells and the first sum_count sums are in use.
+// A sheet. The first cell_count cells and the first record_count records are in use.
 pub struct Sheet {
     pub width: u64,
     pub limit: u64,
     pub cell_count: u64,
-    pub sum_count: u64,
+    pub record_count: u64,
     pub cells: [Interval; 64],
-    pub sums: [Record; 128],
+    pub records: [Record; 128],
 }
 
 // How a call on a sheet went.
@@ -41,16 +42,21 @@ pub(crate) fn blank_sheet(width: u64, limit: u64) -> Sheet
     ensures { λ r. ⌜ r ≡ blank width limit ⌝ }
 {
     let cell = Interval { low: 0, high: 0 };
-    let sum = Record { x: 0, a: 0, b: 0 };
+    let record = Record {
+        kind: 0,
+        x: 0,
+        a: 0,
+        b: 0,
+    };
     let cells = [cell; 64];
-    let sums = [sum; 128];
+    let records = [record; 128];
     Sheet {
         width,
         limit,
         cell_count: 0,
-        sum_count: 0,
+        record_count: 0,
         cells,
-        sums,
+        records,
     }
 }
 

@@ -1,9 +1,9 @@
-// Lent lists: the host's cells, narrowed in place, and its sums. A walk between the lists and the sheet by value, which does the work.
+// Lent lists: the host's cells, narrowed in place, and its records. A walk between the lists and the sheet by value, which does the work.
 ghost use mathlib.Core.Path.{_≡_};
 ghost use Prim.Native.Nat.{_<_, _≤_, min};
 ghost use lib.ListN.{length, getD, set};
 ghost use Rattle.sheet.specs.Sheets.{noCell, blank, withCells};
-ghost use Rattle.sheet.specs.Loading.{withSums, withCounts, loadedCells, loadedSums, storedCells, storedCount};
+ghost use Rattle.sheet.specs.Loading.{withRecords, withCounts, loadedCells, loadedRecords, storedCells, storedCount};
 ghost use Rattle.sheet.specs.Lists.{NarrowsLists};
 use crate::kept::Record;
 use crate::kept::Sheet;
@@ -23,12 +23,12 @@ fn min(n: usize, most: usize) -> usize
 }
 
 // An empty sheet with the lengths of the lists as its counts.
-fn count_lists(width: u64, limit: u64, cell_count: usize, sum_count: usize) -> Sheet
-    ensures { λ r. ⌜ r ≡ withCounts (blank width limit) «cell_count» «sum_count» ⌝ }
+fn count_lists(width: u64, limit: u64, cell_count: usize, record_count: usize) -> Sheet
+    ensures { λ r. ⌜ r ≡ withCounts (blank width limit) «cell_count» «record_count» ⌝ }
 {
     let mut sheet = blank_sheet(width, limit);
     sheet.cell_count = cell_count as u64;
-    sheet.sum_count = sum_count as u64;
+    sheet.record_count = record_count as u64;
     sheet
 }
 
@@ -42,13 +42,13 @@ fn put_cell(sheet: Sheet, i: usize, cell: Interval) -> Sheet
     next
 }
 
-// One sum is put into the sheet.
-fn put_sum(sheet: Sheet, i: usize, sum: Record) -> Sheet
+// One record is put into the sheet.
+fn put_record(sheet: Sheet, i: usize, record: Record) -> Sheet
     requires { ⌜ i < 128 ⌝ }
-    ensures { λ r. ⌜ r ≡ withSums sheet (set (sheet .sums) i sum) ⌝ }
+    ensures { λ r. ⌜ r ≡ withRecords sheet (set (sheet .records) i «record») ⌝ }
 {
     let mut next = sheet;
-    next.sums[i] = sum;
+    next.records[i] = record;
     next
 }
 
@@ -86,15 +86,15 @@ fn load_cells(cells: &[Interval], n: usize, sheet: Sheet) -> Sheet
     next
 }
 
-// The sheet with the first n sums of the list.
-fn load_sums(sums: &[Record], n: usize, sheet: Sheet) -> Sheet
-    requires { ⌜ (n ≤ length (now sums)) × (n ≤ 128) ⌝ }
-    ensures { λ r. ⌜ r ≡ loadedSums (now (sums .entry)) n sheet ⌝ }
+// The sheet with the first n records of the list.
+fn load_records(records: &[Record], n: usize, sheet: Sheet) -> Sheet
+    requires { ⌜ (n ≤ length (now records)) × (n ≤ 128) ⌝ }
+    ensures { λ r. ⌜ r ≡ loadedRecords (now (records .entry)) n sheet ⌝ }
 {
     let mut next = sheet;
     let mut i: usize = 0;
     while i < n {
-        next = put_sum(next, i, sums[i]);
+        next = put_record(next, i, records[i]);
         i += 1;
     }
     next
@@ -112,17 +112,17 @@ fn store_cells(cells: &mut [Interval], n: usize, sheet: Sheet)
     }
 }
 
-// Narrows the cells of a list by the sums of a second list until a pass moves no end, a sum has no triple, or the pass limit is reached. Refusals in the order of lists; every one but 12 leaves the cells as they were.
-pub fn narrow_lists(width: u64, limit: u64, cells: &mut [Interval], sums: &[Record]) -> Outcome
-    ensures { λ r. ⌜ NarrowsLists width limit (now (cells .entry)) (now (sums .entry)) (now (cells .exit)) r ⌝ }
+// Narrows the cells of a list by the records of a second list until a pass moves no end, a record has no solution, or the pass limit is reached. Refusals in the order of lists; every one but 12 leaves the cells as they were.
+pub fn narrow_lists(width: u64, limit: u64, cells: &mut [Interval], records: &[Record]) -> Outcome
+    ensures { λ r. ⌜ NarrowsLists width limit (now (cells .entry)) (now (records .entry)) (now (cells .exit)) r ⌝ }
 {
     let cell_count = cells.len();
-    let sum_count = sums.len();
-    let blank = count_lists(width, limit, cell_count, sum_count);
+    let record_count = records.len();
+    let blank = count_lists(width, limit, cell_count, record_count);
     let cells_held = min(cell_count, 64);
-    let sums_held = min(sum_count, 128);
+    let records_held = min(record_count, 128);
     let with_cells = load_cells(cells, cells_held, blank);
-    let full = load_sums(sums, sums_held, with_cells);
+    let full = load_records(records, records_held, with_cells);
     let run = narrow_sheet(full);
     let outcome = run.outcome;
     let back = stored_count(outcome, cells_held);

@@ -42,7 +42,7 @@ fn finish(sheet: Sheet, tidy: Sheet, halted: Halted) -> Run
     }
 }
 
-// Narrows the sums of a sheet together until a pass moves no end, a sum has no triple, or the pass limit is reached. The sheet's own refusals first; 11 leaves the sheet as it came, 12 with the box after the last pass.
+// Narrows the cells of a sheet by its records until a pass moves no end, a record has no solution, or the pass limit is reached. The sheet's own refusals first; 11 leaves the sheet as it came, 12 with the box after the last pass.
 pub fn narrow_sheet(sheet: Sheet) -> Run
     ensures { λ r. ⌜ Narrows sheet r ⌝ }
 {

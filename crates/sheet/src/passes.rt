@@ -1,18 +1,18 @@
-// The run: passes around sums, from the cells first given until a pass moves no end, a sum has no triple, or the pass limit is reached.
+// The run: passes around records, from the cells first given until a pass moves no end, a record has no solution, or the pass limit is reached.
 ghost use Prim.Native.Nat.{_≤_};
 ghost use lib.ListN.{take};
 ghost use Rattle.sheet.specs.Loops.{Compares, Ready, EndsAs};
 ghost use Rattle.sheet.specs.Narrowings.{endOf};
 use crate::kept::Sheet;
+use crate::step::narrow_record;
 use arith::interval::Interval;
 use arith::narrow::Narrowed;
 use arith::refusal::Refusal;
-use machine::narrow::narrow;
 
-// How a run ended, by pass and sum, both as 01 counts them; or the refusal of the sheet.
+// How a run ended, by pass and record, both as 01 counts them; or the refusal of the sheet.
 pub enum Outcome {
     Settled { passes: u64 },
-    NoTriple { pass: u64, sum: u64 },
+    NoTriple { pass: u64, record: u64 },
     Stopped { passes: u64 },
     Refused(Refusal),
 }
@@ -41,7 +41,7 @@ fn same_cells(count: u64, p: [Interval; 64], q: [Interval; 64]) -> bool
     true
 }
 
-// The run on a sheet that is tested and tidied.
+// The run on a sheet that is tested and tidied. The third number of a neg is 0, so cell 0 is written back as it was, before a neg's own cells are written.
 pub(crate) fn run_passes(sheet: Sheet) -> Halted
     requires { ⌜ Ready sheet ⌝ }
     ensures { λ t. ⌜ EndsAs sheet t (endOf sheet) ⌝ }
@@ -49,23 +49,24 @@ pub(crate) fn run_passes(sheet: Sheet) -> Halted
     let width = sheet.width;
     let limit = sheet.limit;
     let count = sheet.cell_count;
-    let n = sheet.sum_count;
-    let sums = sheet.sums;
+    let n = sheet.record_count;
+    let records = sheet.records;
     let mut cells = sheet.cells;
     let mut pass: u64 = 1;
     let outcome = 'passes: loop {
         let before = cells;
-        'sums: for k in 0..n {
-            let sum = sums[k as usize];
-            let x = cells[sum.x as usize];
-            let a = cells[sum.a as usize];
-            let b = cells[sum.b as usize];
-            let Narrowed::Ends { x: p, a: q, b: r } = narrow(width, x, a, b) else {
-                break 'passes Outcome::NoTriple { pass, sum: k };
+        'records: for k in 0..n {
+            let record = records[k as usize];
+            let x = cells[record.x as usize];
+            let a = cells[record.a as usize];
+            let b = cells[record.b as usize];
+            let Narrowed::Ends { x: p, a: q, b: r } = narrow_record(width, record.kind, x, a, b)
+            else {
+                break 'passes Outcome::NoTriple { pass, record: k };
             };
-            cells[sum.x as usize] = p;
-            cells[sum.a as usize] = q;
-            cells[sum.b as usize] = r;
+            cells[record.b as usize] = r;
+            cells[record.a as usize] = q;
+            cells[record.x as usize] = p;
         }
         if same_cells(count, before, cells) {
             break 'passes Outcome::Settled { passes: pass };

@@ -2,11 +2,11 @@
 ghost use mathlib.Core.Path.{_≡_};
 ghost use Prim.Native.Nat.{_≤_};
 ghost use lib.ListN.{take};
-ghost use Rattle.sheet.specs.Faults.{cellFault, sumFault};
+ghost use Rattle.sheet.specs.Faults.{cellFault, recordFault};
 ghost use Rattle.sheet.specs.Sheets.{refusedAt, firstFault, testOf};
 use crate::fault::cell_fault;
 use crate::fault::head_fault;
-use crate::fault::sum_fault;
+use crate::fault::record_fault;
 use crate::kept::Answer;
 use crate::kept::Record;
 use crate::kept::Sheet;
@@ -34,13 +34,13 @@ fn test_cells(width: u64, count: u64, cells: [Interval; 64]) -> Answer
     Answer::Done
 }
 
-// The first of the sums in use with a fault.
-fn test_sums(cell_count: u64, count: u64, sums: [Record; 128]) -> Answer
+// The first of the records in use with a fault.
+fn test_records(cell_count: u64, count: u64, records: [Record; 128]) -> Answer
     requires { ⌜ count ≤ 128 ⌝ }
-    ensures { λ r. ⌜ r ≡ firstFault (sumFault «cell_count») 0 (take count sums) ⌝ }
+    ensures { λ r. ⌜ r ≡ firstFault (recordFault «cell_count») 0 (take count records) ⌝ }
 {
     for k in 0..count {
-        let fault = sum_fault(cell_count, sums[k as usize]);
+        let fault = record_fault(cell_count, records[k as usize]);
         if fault != 0 {
             return refuse_at(fault, k);
         }
@@ -59,7 +59,7 @@ pub(crate) fn test_sheet(sheet: Sheet) -> Answer
     if 64 < sheet.cell_count {
         return refuse_at(10, 64);
     }
-    if 128 < sheet.sum_count {
+    if 128 < sheet.record_count {
         return refuse_at(10, 128);
     }
     let cells = sheet.cells;
@@ -67,6 +67,6 @@ pub(crate) fn test_sheet(sheet: Sheet) -> Answer
     if let Answer::Refused(r) = found {
         return Answer::Refused(r);
     }
-    let sums = sheet.sums;
-    test_sums(sheet.cell_count, sheet.sum_count, sums)
+    let records = sheet.records;
+    test_records(sheet.cell_count, sheet.record_count, records)
 }

@@ -6,7 +6,7 @@ ghost use lib.ListN.{take};
 ghost use Rattle.sheet.specs.Cells.{canonicalCell};
 ghost use Rattle.sheet.specs.declared.kept.Answer.the-variants.{Done};
 ghost use Rattle.sheet.specs.Faults.{cellFault};
-ghost use Rattle.sheet.specs.Sheets.{noCell, noSum, filled, firstFault, tidied, testOf};
+ghost use Rattle.sheet.specs.Sheets.{noCell, noRecord, filled, firstFault, tidied, testOf};
 use crate::kept::Record;
 use crate::kept::Sheet;
 use arith::interval::Image;
@@ -36,15 +36,20 @@ fn tidy_cells(width: u64, count: u64, cells: [Interval; 64]) -> [Interval; 64]
     out
 }
 
-// The sums in use, and zero in the other places.
-fn tidy_sums(count: u64, sums: [Record; 128]) -> [Record; 128]
+// The records in use, and zero in the other places.
+fn tidy_records(count: u64, records: [Record; 128]) -> [Record; 128]
     requires { ⌜ count ≤ 128 ⌝ }
-    ensures { λ r. ⌜ r ≡ filled 128 noSum (take count sums) count ⌝ }
+    ensures { λ r. ⌜ r ≡ filled 128 noRecord (take count records) count ⌝ }
 {
-    let none = Record { x: 0, a: 0, b: 0 };
+    let none = Record {
+        kind: 0,
+        x: 0,
+        a: 0,
+        b: 0,
+    };
     let mut out = [none; 128];
     for k in 0..count {
-        out[k as usize] = sums[k as usize];
+        out[k as usize] = records[k as usize];
     }
     out
 }
@@ -56,14 +61,14 @@ pub(crate) fn tidy(sheet: Sheet) -> Sheet
 {
     let given = sheet.cells;
     let cells = tidy_cells(sheet.width, sheet.cell_count, given);
-    let named = sheet.sums;
-    let sums = tidy_sums(sheet.sum_count, named);
+    let named = sheet.records;
+    let records = tidy_records(sheet.record_count, named);
     Sheet {
         width: sheet.width,
         limit: sheet.limit,
         cell_count: sheet.cell_count,
-        sum_count: sheet.sum_count,
+        record_count: sheet.record_count,
         cells,
-        sums,
+        records,
     }
 }

@@ -1,7 +1,7 @@
 -- `arith::interval::canonical_in` meets its contract. Assumes nothing.
-use mathlib.Core.Path.{refl}
+use mathlib.Core.Path.{ap, _∙_}
 use Rattle.arith.specs.declared.interval.Image.the-variants.{Refused}
-use Rattle.arith.specs.Intervals.{canonicalIn}
+use Rattle.arith.specs.Intervals.{rangeOf, intervalOf, canonicalIn}
 use Rattle.arith.proofs.Refusing.{refused, holds, fails}
 use Rattle.arith.proofs.Intervals.{range-ends}
 use Rattle.arith.proofs.Images.{reversed, imaged}
@@ -32,7 +32,9 @@ unfolding canonicalIn
 returns-3 c =
     let t = c .before in
     let s = t .before .before .before in
-    imaged _ _ (s .before .ends-finite .ensures) (s .if1 .left) (t .before .before .range-of .ensures) (t .before .ordered .ensures) (λ R. R) (t .if2 .left) refl (c .interval-of .ensures)
+    let a = s .before .before .args in
+    imaged (a .format) (a .i) (s .before .ends-finite .ensures) (s .if1 .left) (t .before .before .range-of .ensures) (t .before .ordered .ensures) (rangeOf (a .format) (a .i)) (t .if2 .left)
+    (c .interval-of .ensures ∙ ap (intervalOf (a .format)) (t .before .before .range-of .ensures))
 
 pub canonical-in-spec : {M : Type 1} → statement M
 canonical-in-spec = tie.close (tie.spec (λ c κs. c .pre) (λ c κs. tt) returns range-of-requires (λ c κs. tt) (λ c κs. tt) returns-2 interval-of-requires returns-3)

@@ -1,8 +1,9 @@
 -- `arith::interval::mirror_in` meets its contract. Assumes nothing.
+use mathlib.Core.Path.{_∙_}
 use Rattle.arith.specs.declared.interval.Image.the-variants.{Refused}
-use Rattle.arith.specs.Intervals.{reflected, mirrorIn}
+use Rattle.arith.specs.Intervals.{rangeOf, reflected, mirrorIn}
 use Rattle.arith.proofs.Refusing.{refused, holds, fails}
-use Rattle.arith.proofs.Intervals.{range-ends, reflected-ends}
+use Rattle.arith.proofs.Intervals.{mirrored-ends}
 use Rattle.arith.proofs.Images.{reversed, imaged}
 use Rattle.arith.proofs.interval.mirror_in.Statement.{statement}
 use Rattle.arith.proofs.interval.mirror_in.Tie as tie
@@ -21,20 +22,14 @@ returns-2 c =
     let s = t .before .before .before in
     reversed _ _ (s .before .ends-finite .ensures) (s .if1 .left) (t .before .before .range-of .ensures) (t .before .ordered .ensures) _ (t .if2 .taken) (c .refuse2 .ensures)
 
-reflect-requires : tie.Need-reflect-requires
-reflect-requires c κs =
-    let s = c .before .before .before in
-    (s .before .before .pre, range-ends _ _ _ (c .before .before .range-of .ensures) (holds (s .before .ends-finite .ensures) (s .if1 .left)))
-
-interval-of-requires : tie.Need-interval-of-requires
-interval-of-requires c κs = let r = reflect-requires (c .before) κs in (r .0, reflected-ends (c .before .before .before .before .before .before .args .format) _ _ (c .reflect .ensures) (r .1))
-
 returns-3 : tie.Need-returns-3
 unfolding mirrorIn
 returns-3 c =
-    let t = c .before .before in
+    let t = c .before in
     let s = t .before .before .before in
-    imaged _ _ (s .before .ends-finite .ensures) (s .if1 .left) (t .before .before .range-of .ensures) (t .before .ordered .ensures) (reflected (s .before .before .args .format)) (t .if2 .left) (c .before .reflect .ensures) (c .interval-of .ensures)
+    let a = s .before .before .args in
+    imaged (a .format) (a .i) (s .before .ends-finite .ensures) (s .if1 .left) (t .before .before .range-of .ensures) (t .before .ordered .ensures) (reflected (a .format) (rangeOf (a .format) (a .i))) (t .if2 .left)
+    (c .mirrored .ensures ∙ mirrored-ends (a .format) (a .i) (holds (s .before .ends-finite .ensures) (s .if1 .left)))
 
 pub mirror-in-spec : {M : Type 1} → statement M
-mirror-in-spec = tie.close (tie.spec (λ c κs. c .pre) (λ c κs. tt) returns range-of-requires (λ c κs. tt) (λ c κs. tt) returns-2 reflect-requires interval-of-requires returns-3)
+mirror-in-spec = tie.close (tie.spec (λ c κs. c .pre) (λ c κs. tt) returns range-of-requires (λ c κs. tt) (λ c κs. tt) returns-2 (λ c κs. c .before .before .before .before .before .pre) returns-3)

@@ -82,7 +82,7 @@ RA = Array R.the-row 130
 abbrev stayed : Stays (f.ended .signature .params) (f.ended .kept)
 stayed = (stay-none (λ _. usize) yes, (stay-none (λ _. usize) yes, (stay-none (λ _. TA) yes, (stay-none (λ _. usize) yes, (stay-none (λ _. RA) yes, (stay-none (λ _. usize) yes, tt))))))
 
--- the machine values of a cell, a sum, an array of either, an outcome and a number
+-- the machine values of a cell, a record, an array of either, an outcome and a number
 abbrev tvals : Interval → List Val
 tvals = LL.vals T.the-type T′.the-laws
 
@@ -166,8 +166,8 @@ module _ {M : Type 1} (𝓤 : URA M) (H : Heap 𝓤) (A : Atoms 𝓤) (W : Given
   typed-cells : (us : List Interval) → Is TA us (tav us ∷ []) → Holds (hasTy arrC (tav us)) × WT (tav us)
   typed-cells us is = array-lawful 𝓤 H A W T.the-row (LL.lawful T.the-type T′.the-laws 𝓤 H A W) 66 .typed us _ is .0
 
-  typed-sums : Holds (hasTy arrS (rav rs)) × WT (rav rs)
-  typed-sums = array-lawful 𝓤 H A W R.the-row (LL.lawful R.the-type R′.the-laws 𝓤 H A W) 130 .typed rs _ gr .0
+  typed-records : Holds (hasTy arrS (rav rs)) × WT (rav rs)
+  typed-records = array-lawful 𝓤 H A W R.the-row (LL.lawful R.the-type R′.the-laws 𝓤 H A W) 130 .typed rs _ gr .0
 
   typed-outcome : (d : Outcome) (w : Val) → Is O.the-row d (w ∷ []) → Holds (hasTy O′.mir w) × WT w
   typed-outcome d w is = EL.lawful O.the-type O′.the-laws 𝓤 H A W tt .typed d _ is .0
@@ -262,7 +262,7 @@ module _ {M : Type 1} (𝓤 : URA M) (H : Heap 𝓤) (A : Atoms 𝓤) (W : Given
       begins : Sq W (‵ (froom arrC l₁₄ 0) ∷ ‵ (fdies arrC l₁₄) ∷ ‵ (froom shrSl l₁₃ 0) ∷ ‵ (fdies shrSl l₁₃) ∷ ‵ (froom shrArr l₁₂ 0) ∷ ‵ (fdies shrArr l₁₂) ∷ ‵ (froom mutSl l₁₁ 0) ∷ ‵ (fdies mutSl l₁₁) ∷ ‵ (froom mutArr l₁₀ 0) ∷ ‵ (fdies mutArr l₁₀) ∷ ‵ (froom O′.mir l₉ 0) ∷ ‵ (fdies O′.mir l₉) ∷ ‵ (froom arrS l₈ 0) ∷ ‵ (fdies arrS l₈) ∷ ‵ (froom arrC l₇ 0) ∷ ‵ (fdies arrC l₇) ∷ ‵ (fat fullShare word l₆ 0 (num m)) ∷ ‵ (fdies word l₆) ∷ ‵ (fat fullShare arrS l₅ 0 (rav rs)) ∷ ‵ (fdies arrS l₅) ∷ ‵ (fat fullShare word l₄ 0 (num n)) ∷ ‵ (fdies word l₄) ∷ ‵ (fat fullShare arrC l₃ 0 (tav cs)) ∷ ‵ (fdies arrC l₃) ∷ ‵ (fat fullShare word l₂ 0 (num limit)) ∷ ‵ (fdies word l₂) ∷ ‵ (fat fullShare word l₁ 0 (num width)) ∷ ‵ (fdies word l₁) ∷ ‵ (froom L′.mir l₀ 0) ∷ ‵ (fdies L′.mir l₀) ∷ []) (runs C Λ En mir.t-1 (atRet En Post))
       begins =
           assigns ! (of-opd ! (loads ! (from ! (stop !)) (look ! 22 refl))) (from ! (stop !)) (init ! 14 refl (typed-cells cs gc)) $
-          assigns ! (of-opd ! (loads ! (from ! (stop !)) (look ! 18 refl))) (from ! (stop !)) (init ! 12 refl typed-sums) $
+          assigns ! (of-opd ! (loads ! (from ! (stop !)) (look ! 18 refl))) (from ! (stop !)) (init ! 12 refl typed-records) $
           assigns ! (addr ! (from ! (stop !))) (from ! (stop !)) (init ! 8 refl (tt, tt)) $
           assigns ! (agg ! (and-then ! (loads ! (from ! (stop !)) (look ! 8 refl)) (and-then ! (loads ! (from ! (stop !)) (look ! 20 refl)) (no-more !)))) (from ! (stop !)) (init ! 6 refl (tt, (tt, (record { fits = gn }, tt)))) $ rewrite ! 6 (λ (i : ℕ). ‵ (fat fullShare mutSl l₁₁ 0 (sliceVal (l₇, 0) i))) (sym ys-long) refl $
           assigns ! (addr ! (from ! (stop !))) (from ! (stop !)) (init ! 4 refl (tt, tt)) $
@@ -270,7 +270,7 @@ module _ {M : Type 1} (𝓤 : URA M) (H : Heap 𝓤) (A : Atoms 𝓤) (W : Given
           -- the cells are lent
           owned ! TA (Is TA) (array-makes 𝓤 H A W T.the-row (LL.makes T.the-type T′.the-plain 𝓤 H A) 66) cs _ gc $ move ! (15 ∷ 0 ∷ []) $ use2 W (‵ (cells (mem T.the-row) cs l₇ 0)) (apart T.the-row tt tvals (LL.tells T.the-type T′.the-laws) 66 𝓤 H A W l₇ cs (tav cs)) $ lft-new ! tt (λ ν. move ! (1 ∷ []) $
           use1 W (later (some (λ (γ : GName). ‵ (Mut ν γ) ⊛ ‵ (Kept T.the-row tt tvals (LL.tells T.the-type T′.the-laws) 66 𝓤 H A W l₇ n cs (ν ∷ []) γ)))) (first-lent T.the-row tt tvals (LL.tells T.the-type T′.the-laws) 66 𝓤 H A W l₇ n cs (ν ∷ []) (named 0) ys-room) $ await ! tt $ pick ! (λ γ. split ! $
-          -- and the sums
+          -- and the records
           owned ! RA (Is RA) (array-makes 𝓤 H A W R.the-row (LL.makes R.the-type R′.the-plain 𝓤 H A) 130) rs _ gr $ move ! (16 ∷ 0 ∷ []) $ use2 W (‵ (cells (mem R.the-row) rs l₈ 0)) (apart R.the-row tt rvals (LL.tells R.the-type R′.the-laws) 130 𝓤 H A W l₈ rs (rav rs)) $ lft-new ! tt (λ ν′. move ! (1 ∷ []) $
           use1 W (later (some (λ (γ′ : GName). ‵ (Shr ν′ γ′) ⊛ ‵ (KeptShared R.the-row tt rvals (LL.tells R.the-type R′.the-laws) 130 𝓤 H A W l₈ m rs (ν′ ∷ []))))) (first-shared R.the-row tt rvals (LL.tells R.the-type R′.the-laws) 130 𝓤 H A W l₈ m rs (ν′ ∷ []) (named 1) zs-room) $ await ! tt $ pick ! (λ γ′. split ! $
           move ! (2 ∷ 0 ∷ []) $ join ! $ move ! (2 ∷ 0 ∷ []) $ join ! $ move ! (3 ∷ 0 ∷ []) $ join ! $
@@ -286,7 +286,7 @@ module _ {M : Type 1} (𝓤 : URA M) (H : Heap 𝓤) (A : Atoms 𝓤) (W : Given
         qed W (‵ ftrue ∷ ‵ (owns (usize ∷ usize ∷ TA ∷ usize ∷ RA ∷ usize ∷ []) a at) ∷ []) ∵ keep ! [] $ enter ! C Λ code.function (num width ∷ num limit ∷ tav cs ∷ num n ∷ rav rs ∷ num m ∷ []) _ $
         alloc1 ! (λ l₀. alloc1 ! (λ l₁. alloc1 ! (λ l₂. alloc1 ! (λ l₃. alloc1 ! (λ l₄. alloc1 ! (λ l₅. alloc1 ! (λ l₆. alloc1 ! (λ l₇. alloc1 ! (λ l₈. alloc1 ! (λ l₉. alloc1 ! (λ l₁₀. alloc1 ! (λ l₁₁. alloc1 ! (λ l₁₂. alloc1 ! (λ l₁₃. alloc1 ! (λ l₁₄. alloc0 ! $ params1 ! $
         pass1 ! (init ! 26 refl (tt, record { fits = gw })) $ pass1 ! (init ! 24 refl (tt, record { fits = gl })) $ pass1 ! (init ! 22 refl (typed-cells cs gc)) $ pass1 ! (init ! 20 refl (tt, record { fits = gn })) $
-        pass1 ! (init ! 18 refl typed-sums) $ pass1 ! (init ! 16 refl (tt, record { fits = gm })) $ pass0 ! $ begins l₀ l₁ l₂ l₃ l₄ l₅ l₆ l₇ l₈ l₉ l₁₀ l₁₁ l₁₂ l₁₃ l₁₄)))))))))))))))
+        pass1 ! (init ! 18 refl typed-records) $ pass1 ! (init ! 16 refl (tt, record { fits = gm })) $ pass0 ! $ begins l₀ l₁ l₂ l₃ l₄ l₅ l₆ l₇ l₈ l₉ l₁₀ l₁₁ l₁₂ l₁₃ l₁₄)))))))))))))))
 
 module _ {M : Type 1} (𝓤 : URA M) (H : Heap 𝓤) (A : Atoms 𝓤) (W : Given 𝓤 H A) (mem′ : Memory → SProp 𝓤) (run : Routine → Fun 𝓤) (𝓣 : Tables 𝓤 H) (known : Triple 𝓤 (𝓣 .C #sheet·lent·narrow-lists) (Narrow 𝓤 H A mem′ run)) (known-gather : Triple 𝓤 (𝓣 .C #lent-readings·lending·gather) (Gather 𝓤 H A mem′ run)) where
   lend-walks : Walks 𝓤 H A f.ended stayed (WpFn 𝓤 H (𝓣 .C) (𝓣 .Λ) code.function) (f.clauses 𝓤 H A mem′ run)

@@ -18,8 +18,8 @@ cell-step-requires c κs = tt
 enum-known-l-3 : tie.Need-enum-known-l-3
 enum-known-l-3 c = c .match .keys3
 
-sum-step-requires : tie.Need-sum-step-requires
-sum-step-requires c κs = tt
+record-step-requires : tie.Need-record-step-requires
+record-step-requires c κs = tt
 
 enum-told : tie.Need-enum-told
 enum-told c = c .match .keys4
@@ -37,7 +37,7 @@ returns-2 c = rw (c .before .before .l2 .given .1) (c .cell-step .ensures)
 
 returns-3 : tie.Need-returns-3
 unfolding admitted
-returns-3 c = rw (c .before .before .l3 .given .1) (c .sum-step .ensures)
+returns-3 c = rw (c .before .before .l3 .given .1) (c .record-step .ensures)
 
 returns-4 : tie.Need-returns-4
 unfolding admitted
@@ -52,7 +52,7 @@ admit-spec =
     enum-known-l-2
     cell-step-requires
     enum-known-l-3
-    sum-step-requires
+    record-step-requires
     enum-told
     refuse-at-requires
     returns

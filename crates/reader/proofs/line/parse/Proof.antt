@@ -41,22 +41,12 @@ returns-3 : tie.Need-returns-3
 unfolding lineOf
 returns-3 c = rw (ne-eqb _ _ (c .before .before .before .before .if1 .left), ← c .before .before .before .before .before .before .before2 .ensures, ← c .before .before .same2 .ensures, c .before .if3 .taken, ← c .before .before .before .before .before .after .ensures) (c .cell-in .ensures)
 
-slice-aggregate-same-3 : tie.Need-slice-aggregate-same-3
-slice-aggregate-same-3 c = refl
-
-same-requires-3 : tie.Need-same-requires-3
-same-requires-3 c κs = tt
-
-sum-in-requires : tie.Need-sum-in-requires
-sum-in-requires c κs = tt
+record-in-requires : tie.Need-record-in-requires
+record-in-requires c κs = tt
 
 returns-4 : tie.Need-returns-4
 unfolding lineOf
-returns-4 c = rw (ne-eqb _ _ (c .before .before .before .before .before .before .before .if1 .left), ← c .before .before .before .before .before .before .before .before .before .before2 .ensures, ← c .before .before .before .before .before .same2 .ensures, c .before .before .before .before .if3 .left, ← c .before .before .same3 .ensures, c .before .if4 .taken, ← c .before .before .before .before .before .before .before .before .after .ensures) (c .sum-in .ensures)
-
-returns-5 : tie.Need-returns-5
-unfolding lineOf
-returns-5 c = rw (ne-eqb _ _ (c .before .before .before .before .before .before .if1 .left), ← c .before .before .before .before .before .before .before .before .before2 .ensures, ← c .before .before .before .before .same2 .ensures, c .before .before .before .if3 .left, ← c .before .same3 .ensures, c .if4 .left)
+returns-4 c = rw (ne-eqb _ _ (c .before .before .before .before .if1 .left), ← c .before .before .before .before .before .before .before2 .ensures, ← c .before .before .same2 .ensures, c .before .if3 .left, ← c .before .before .before .before .before .after .ensures) (c .record-in .ensures)
 
 pub parse-spec : {M : Type 1} → statement M
 parse-spec =
@@ -73,8 +63,5 @@ parse-spec =
     same-requires-2
     cell-in-requires
     returns-3
-    slice-aggregate-same-3
-    same-requires-3
-    sum-in-requires
-    returns-4
-    returns-5)
+    record-in-requires
+    returns-4)

@@ -48,17 +48,17 @@ loop-less-2 c = (rw (← c .before .before .before .before .before .next .ensure
 loop-again-2 : tie.Need-loop-again-2 Inv-loop μ-loop
 loop-again-2 c = rw (c .before .add-cell .ensures .0) ((rw (← c .before .before .before .before .before .next .ensures .0, c .before .before .before .cell .given .1) at (follows (c .before .before .before .before .before .before .loop .inv))) .reading)
 
-enum-known-sum : tie.Need-enum-known-sum Inv-loop μ-loop
-enum-known-sum c = c .match .keys3
+enum-known-record : tie.Need-enum-known-record Inv-loop μ-loop
+enum-known-record c = c .match .keys3
 
-add-sum-requires : tie.Need-add-sum-requires Inv-loop μ-loop
-add-sum-requires c κs = tt
+add-record-requires : tie.Need-add-record-requires Inv-loop μ-loop
+add-record-requires c κs = tt
 
 loop-less-3 : tie.Need-loop-less-3 Inv-loop μ-loop
-loop-less-3 c = (rw (← c .before .before .before .before .before .next .ensures .0, c .before .before .before .sum .given .1) at (follows (c .before .before .before .before .before .before .loop .inv))) .less
+loop-less-3 c = (rw (← c .before .before .before .before .before .next .ensures .0, c .before .before .before .«record» .given .1) at (follows (c .before .before .before .before .before .before .loop .inv))) .less
 
 loop-again-3 : tie.Need-loop-again-3 Inv-loop μ-loop
-loop-again-3 c = rw (c .before .add-sum .ensures .0) ((rw (← c .before .before .before .before .before .next .ensures .0, c .before .before .before .sum .given .1) at (follows (c .before .before .before .before .before .before .loop .inv))) .reading)
+loop-again-3 c = rw (c .before .add-record .ensures .0) ((rw (← c .before .before .before .before .before .next .ensures .0, c .before .before .before .«record» .given .1) at (follows (c .before .before .before .before .before .before .loop .inv))) .reading)
 
 enum-told : tie.Need-enum-told Inv-loop μ-loop
 enum-told c = c .match .keys4
@@ -95,8 +95,8 @@ read-spec =
     add-cell-requires
     loop-less-2
     loop-again-2
-    enum-known-sum
-    add-sum-requires
+    enum-known-record
+    add-record-requires
     loop-less-3
     loop-again-3
     enum-told

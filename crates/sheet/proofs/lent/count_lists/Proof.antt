@@ -9,7 +9,7 @@ blank-sheet-requires : tie.Need-blank-sheet-requires
 blank-sheet-requires c κs = tt
 
 returns : tie.Need-returns
-returns c = ap (λ (s : Sheet). withCounts s (c .before .args .cell-count) (c .before .args .sum-count)) (c .blank-sheet .ensures)
+returns c = ap (λ (s : Sheet). withCounts s (c .before .args .cell-count) (c .before .args .record-count)) (c .blank-sheet .ensures)
 
 pub count-lists-spec : {M : Type 1} → statement M
 count-lists-spec = tie.close (tie.spec blank-sheet-requires returns)

@@ -1,6 +1,6 @@
--- `lent::narrow_lists` meets its contract: a walk of its MIR, by hand: eight calls, no branch and no loop. The cells are lent on as a `&` for the call of `load_cells`, and come back (`Shared.antt`); the sums, a `&`, are Copy: one copy goes to `load_sums`, and one is kept for the exit; the cells go to `store_cells` for good.
+-- `lent::narrow_lists` meets its contract: a walk of its MIR, by hand: eight calls, no branch and no loop. The cells are lent on as a `&` for the call of `load_cells`, and come back (`Shared.antt`); the records, a `&`, are Copy: one copy goes to `load_records`, and one is kept for the exit; the cells go to `store_cells` for good.
 --     Locals           the locals, the last first: each holds a value, or there is room for one
---     counts, loads-cells, loads-sums, narrows, stores     the parts of the walk, each up to the return of a call; the last comes first
+--     counts, loads-cells, loads-records, narrows, stores     the parts of the walk, each up to the return of a call; the last comes first
 -- All that the proof knows of a callee is that it meets its contract.
 -- Assumes nothing.
 use mathlib.Core.Path.{_≡_, refl, sym, subst}
@@ -53,7 +53,7 @@ use Rattle.sheet.specs.declared.passes.Outcome.{Outcome}
 use Rattle.sheet.specs.declared.passes.Outcome.the-variants.{Settled, NoTriple, Stopped, Refused}
 use Rattle.sheet.specs.Sheets.{blank}
 use Rattle.sheet.specs.Narrowings.{narrowSheetOf, Narrows}
-use Rattle.sheet.specs.Loading.{withCounts, loadedCells, loadedSums, storedCells, storedCount, sheetOf}
+use Rattle.sheet.specs.Loading.{withCounts, loadedCells, loadedRecords, storedCells, storedCount, sheetOf}
 use Rattle.sheet.specs.Lists.{NarrowsLists}
 use Rattle.arith.proofs.interval.Interval as T
 use Rattle.sheet.proofs.kept.Record as R
@@ -79,10 +79,10 @@ use Rattle.sheet.proofs.lent.load_cells as load-cells
 use Rattle.sheet.proofs.lent.load_cells.Symbol as load-cells-def
 use Rattle.sheet.proofs.lent.load_cells.Symbol.{name as #sheet·lent·load-cells}
 use Rattle.sheet.proofs.lent.load_cells.Met as load-cells-thm
-use Rattle.sheet.proofs.lent.load_sums as load-sums
-use Rattle.sheet.proofs.lent.load_sums.Symbol as load-sums-def
-use Rattle.sheet.proofs.lent.load_sums.Symbol.{name as #sheet·lent·load-sums}
-use Rattle.sheet.proofs.lent.load_sums.Met as load-sums-thm
+use Rattle.sheet.proofs.lent.load_records as load-records
+use Rattle.sheet.proofs.lent.load_records.Symbol as load-records-def
+use Rattle.sheet.proofs.lent.load_records.Symbol.{name as #sheet·lent·load-records}
+use Rattle.sheet.proofs.lent.load_records.Met as load-records-thm
 use Rattle.sheet.proofs.narrowing.narrow_sheet as narrow-sheet
 use Rattle.sheet.proofs.narrowing.narrow_sheet.Symbol as narrow-sheet-def
 use Rattle.sheet.proofs.narrowing.narrow_sheet.Symbol.{name as #sheet·narrowing·narrow-sheet}
@@ -124,8 +124,8 @@ FineOutcome d = Is O.the-row d (omach d ∷ [])
 abbrev cellsTy : Ty
 cellsTy = sliceTy (tyRef (named 0) mut (pointee (T.the-row .written)))
 
-abbrev sumsTy : Ty
-sumsTy = sliceTy (tyRef (named 1) imm (pointee (R.the-row .written)))
+abbrev recordsTy : Ty
+recordsTy = sliceTy (tyRef (named 1) imm (pointee (R.the-row .written)))
 
 abbrev shrPtr : Ty
 shrPtr = tyRef erased imm (pointee (T.the-row .written))
@@ -158,8 +158,8 @@ module _ {M : Type 1} (𝓤 : URA M) (H : Heap 𝓤) (A : Atoms 𝓤) (mem : Mem
   abbrev LoadCells : Contract 𝓤
   LoadCells = contractOf 𝓤 H A load-cells.ended (load-cells.clauses 𝓤 H A mem run)
 
-  abbrev LoadSums : Contract 𝓤
-  LoadSums = contractOf 𝓤 H A load-sums.ended (load-sums.clauses 𝓤 H A mem run)
+  abbrev LoadRecords : Contract 𝓤
+  LoadRecords = contractOf 𝓤 H A load-records.ended (load-records.clauses 𝓤 H A mem run)
 
   abbrev NarrowSheet : Contract 𝓤
   NarrowSheet = contractOf 𝓤 H A narrow-sheet.ended (narrow-sheet.clauses 𝓤 H A mem run)
@@ -172,7 +172,7 @@ module _ {M : Type 1} (𝓤 : URA M) (H : Heap 𝓤) (A : Atoms 𝓤) (mem : Mem
 
 module _ {M : Type 1} (𝓤 : URA M) (H : Heap 𝓤) (A : Atoms 𝓤) (W : Given 𝓤 H A) (mem : Memory → SProp 𝓤) (run : Routine → Fun 𝓤) (κ κ′ : Lft) (q q′ : Share) (width limit : ℕ) (b o : ℕ) (γ : GName) (ys : List Interval) (b′ o′ : ℕ) (γ′ : GName) (zs : List Record)
     (gw : width < 2 ^ 64) (gl : limit < 2 ^ 64) (gn : Room T.the-row (length ys)) (gm : Room R.the-row (length zs)) where
-  -- the cells under the name δ, and the sums
+  -- the cells under the name δ, and the records
   abbrev x : GName → RefT (List Interval)
   x δ = record { ptr = (b, o); name = δ; now = ys }
 
@@ -207,7 +207,7 @@ module _ {M : Type 1} (𝓤 : URA M) (H : Heap 𝓤) (A : Atoms 𝓤) (W : Given
   abbrev Tok′ : Item 𝓤
   Tok′ = ‵ (flft κ′ q′) ⊛ ‵ ftrue
 
-  -- how many cells and sums are loaded; the sheets: blank, with the cells, with the sums; the run; how many cells are stored back
+  -- how many cells and records are loaded; the sheets: blank, with the cells, with the records; the run; how many cells are stored back
   abbrev k : ℕ
   k = min (length ys) 64
 
@@ -221,7 +221,7 @@ module _ {M : Type 1} (𝓤 : URA M) (H : Heap 𝓤) (A : Atoms 𝓤) (W : Given
   S₁ = loadedCells ys k S₀
 
   abbrev S₂ : Sheet
-  S₂ = loadedSums zs j S₁
+  S₂ = loadedRecords zs j S₁
 
   abbrev ran : Run
   ran = narrowSheetOf S₂
@@ -288,11 +288,11 @@ module _ {M : Type 1} (𝓤 : URA M) (H : Heap 𝓤) (A : Atoms 𝓤) (W : Given
       qed W (‵ (flft (ν ∷ []) fullShare) ∷ ‵ (ShrSlice (named 0) (ν ∷ []) T.the-row .own (x δ) (xv ∷ [])) ∷ []) ∵ says ! (k-here, k-most) $ nothing ! $ move ! (1 ∷ 0 ∷ []) $ join ! $ frame ! $
       nothing ! $ owned ! S.the-row (Is S.the-row) (LL.makes S.the-type S′.the-plain 𝓤 H A) S₀ _ fine $ fjoin ! $ owned ! usize (Is usize) (uint-makes 𝓤 H A W w64) k _ (refl, k-fits) $ fjoin ! $ move ! (1 ∷ 0 ∷ []) $ fjoin ! $ done !
 
-  abbrev to-sums : LoadSums 𝓤 H A mem run .Ghost
-  to-sums = (((κ′, tt), (q′, tt), tt, (z, (j, (S₁, tt))), (zv ∷ [], (num j ∷ [], (mach S₁ ∷ [], tt)))), tt)
+  abbrev to-records : LoadRecords 𝓤 H A mem run .Ghost
+  to-records = (((κ′, tt), (q′, tt), tt, (z, (j, (S₁, tt))), (zv ∷ [], (num j ∷ [], (mach S₁ ∷ [], tt)))), tt)
 
-  goes-sums : Fine S₁ → ent 𝓤 (sep 𝓤 (sep 𝓤 (A .lft κ′ q′) (sem 𝓤 H A ftrue)) (sem 𝓤 H A Shr)) (LoadSums 𝓤 H A mem run .pre to-sums)
-  goes-sums fine =
+  goes-records : Fine S₁ → ent 𝓤 (sep 𝓤 (sep 𝓤 (A .lft κ′ q′) (sem 𝓤 H A ftrue)) (sem 𝓤 H A Shr)) (LoadRecords 𝓤 H A mem run .pre to-records)
+  goes-records fine =
       qed W (Tok′ ∷ ‵ Shr ∷ []) ∵ says ! (j-here, j-most) $ frame ! $
       nothing ! $ owned ! S.the-row (Is S.the-row) (LL.makes S.the-type S′.the-plain 𝓤 H A) S₁ _ fine $ fjoin ! $ owned ! usize (Is usize) (uint-makes 𝓤 H A W w64) j _ (refl, j-fits) $ fjoin ! $ move ! (1 ∷ 0 ∷ []) $ fjoin ! $ done !
 
@@ -327,10 +327,10 @@ module _ {M : Type 1} (𝓤 : URA M) (H : Heap 𝓤) (A : Atoms 𝓤) (W : Given
       owned ! usize (Is usize) (uint-makes 𝓤 H A W w64) limit _ (refl, gl) $ fjoin ! $ owned ! usize (Is usize) (uint-makes 𝓤 H A W w64) width _ (refl, gw) $ fjoin ! $ frame ! $
       owned ! O.the-row (Is O.the-row) (EL.makes O.the-type O′.the-plain 𝓤 H A) (ran .outcome) _ fine $ done !
 
-  module _ (C : Calls 𝓤 H) (Λ : Loops 𝓤 H) (fm : FmC 𝓤 H (W .laws) C) (known-count-lists : Triple 𝓤 (C #sheet·lent·count-lists) (CountLists 𝓤 H A mem run)) (known-min : Triple 𝓤 (C #sheet·lent·min) (Min 𝓤 H A mem run)) (known-load-cells : Triple 𝓤 (C #sheet·lent·load-cells) (LoadCells 𝓤 H A mem run)) (known-load-sums : Triple 𝓤 (C #sheet·lent·load-sums) (LoadSums 𝓤 H A mem run)) (known-narrow-sheet : Triple 𝓤 (C #sheet·narrowing·narrow-sheet) (NarrowSheet 𝓤 H A mem run)) (known-stored-count : Triple 𝓤 (C #sheet·lent·stored-count) (StoredCount 𝓤 H A mem run)) (known-store-cells : Triple 𝓤 (C #sheet·lent·store-cells) (StoreCells 𝓤 H A mem run)) where
+  module _ (C : Calls 𝓤 H) (Λ : Loops 𝓤 H) (fm : FmC 𝓤 H (W .laws) C) (known-count-lists : Triple 𝓤 (C #sheet·lent·count-lists) (CountLists 𝓤 H A mem run)) (known-min : Triple 𝓤 (C #sheet·lent·min) (Min 𝓤 H A mem run)) (known-load-cells : Triple 𝓤 (C #sheet·lent·load-cells) (LoadCells 𝓤 H A mem run)) (known-load-records : Triple 𝓤 (C #sheet·lent·load-records) (LoadRecords 𝓤 H A mem run)) (known-narrow-sheet : Triple 𝓤 (C #sheet·narrowing·narrow-sheet) (NarrowSheet 𝓤 H A mem run)) (known-stored-count : Triple 𝓤 (C #sheet·lent·stored-count) (StoredCount 𝓤 H A mem run)) (known-store-cells : Triple 𝓤 (C #sheet·lent·store-cells) (StoreCells 𝓤 H A mem run)) where
     module _ (l₀ l₁ l₂ l₃ l₄ l₅ l₆ l₇ l₈ l₉ l₁₀ l₁₁ l₁₂ l₁₃ l₁₄ l₁₅ l₁₆ l₁₇ l₁₈ l₁₉ : ℕ) where
       abbrev En : Env 𝓤 H
-      En = (O′.mir, l₀) ∷ (word, l₁) ∷ (word, l₂) ∷ (cellsTy, l₃) ∷ (sumsTy, l₄) ∷ (word, l₅) ∷ (word, l₆) ∷ (S′.mir, l₇) ∷ (word, l₈) ∷ (word, l₉) ∷ (S′.mir, l₁₀) ∷ (S′.mir, l₁₁) ∷ (N′.mir, l₁₂) ∷ (O′.mir, l₁₃) ∷ (word, l₁₄) ∷ (shrPtr, l₁₅) ∷ (sliceTy shrPtr, l₁₆) ∷ (tyUnit, l₁₇) ∷ (mutPtr, l₁₈) ∷ (sliceTy mutPtr, l₁₉) ∷ []
+      En = (O′.mir, l₀) ∷ (word, l₁) ∷ (word, l₂) ∷ (cellsTy, l₃) ∷ (recordsTy, l₄) ∷ (word, l₅) ∷ (word, l₆) ∷ (S′.mir, l₇) ∷ (word, l₈) ∷ (word, l₉) ∷ (S′.mir, l₁₀) ∷ (S′.mir, l₁₁) ∷ (N′.mir, l₁₂) ∷ (O′.mir, l₁₃) ∷ (word, l₁₄) ∷ (shrPtr, l₁₅) ∷ (sliceTy shrPtr, l₁₆) ∷ (tyUnit, l₁₇) ∷ (mutPtr, l₁₈) ∷ (sliceTy mutPtr, l₁₉) ∷ []
 
       -- what a local holds: a value, or nothing yet
       abbrev Has : Val → Ty → ℕ → Fml
@@ -341,7 +341,7 @@ module _ {M : Type 1} (𝓤 : URA M) (H : Heap 𝓤) (A : Atoms 𝓤) (W : Given
 
       abbrev Locals : (s₅ s₆ s₇ s₈ s₉ s₁₀ s₁₁ s₁₂ s₁₃ s₁₄ s₁₅ s₁₆ s₁₇ s₁₈ s₁₉ s₀ : Ty → ℕ → Fml) → List (Item 𝓤)
       Locals s₅ s₆ s₇ s₈ s₉ s₁₀ s₁₁ s₁₂ s₁₃ s₁₄ s₁₅ s₁₆ s₁₇ s₁₈ s₁₉ s₀ =
-          ‵ (s₁₉ (sliceTy mutPtr) l₁₉) ∷ ‵ (fdies (sliceTy mutPtr) l₁₉) ∷ ‵ (s₁₈ mutPtr l₁₈) ∷ ‵ (fdies mutPtr l₁₈) ∷ ‵ (s₁₇ tyUnit l₁₇) ∷ ‵ (fdies tyUnit l₁₇) ∷ ‵ (s₁₆ (sliceTy shrPtr) l₁₆) ∷ ‵ (fdies (sliceTy shrPtr) l₁₆) ∷ ‵ (s₁₅ shrPtr l₁₅) ∷ ‵ (fdies shrPtr l₁₅) ∷ ‵ (s₁₄ word l₁₄) ∷ ‵ (fdies word l₁₄) ∷ ‵ (s₁₃ O′.mir l₁₃) ∷ ‵ (fdies O′.mir l₁₃) ∷ ‵ (s₁₂ N′.mir l₁₂) ∷ ‵ (fdies N′.mir l₁₂) ∷ ‵ (s₁₁ S′.mir l₁₁) ∷ ‵ (fdies S′.mir l₁₁) ∷ ‵ (s₁₀ S′.mir l₁₀) ∷ ‵ (fdies S′.mir l₁₀) ∷ ‵ (s₉ word l₉) ∷ ‵ (fdies word l₉) ∷ ‵ (s₈ word l₈) ∷ ‵ (fdies word l₈) ∷ ‵ (s₇ S′.mir l₇) ∷ ‵ (fdies S′.mir l₇) ∷ ‵ (s₆ word l₆) ∷ ‵ (fdies word l₆) ∷ ‵ (s₅ word l₅) ∷ ‵ (fdies word l₅) ∷ ‵ (Has zv sumsTy l₄) ∷ ‵ (fdies sumsTy l₄) ∷ ‵ (Has xv cellsTy l₃) ∷ ‵ (fdies cellsTy l₃) ∷ ‵ (Has (num limit) word l₂) ∷ ‵ (fdies word l₂) ∷ ‵ (Has (num width) word l₁) ∷ ‵ (fdies word l₁) ∷ ‵ (s₀ O′.mir l₀) ∷ ‵ (fdies O′.mir l₀) ∷ []
+          ‵ (s₁₉ (sliceTy mutPtr) l₁₉) ∷ ‵ (fdies (sliceTy mutPtr) l₁₉) ∷ ‵ (s₁₈ mutPtr l₁₈) ∷ ‵ (fdies mutPtr l₁₈) ∷ ‵ (s₁₇ tyUnit l₁₇) ∷ ‵ (fdies tyUnit l₁₇) ∷ ‵ (s₁₆ (sliceTy shrPtr) l₁₆) ∷ ‵ (fdies (sliceTy shrPtr) l₁₆) ∷ ‵ (s₁₅ shrPtr l₁₅) ∷ ‵ (fdies shrPtr l₁₅) ∷ ‵ (s₁₄ word l₁₄) ∷ ‵ (fdies word l₁₄) ∷ ‵ (s₁₃ O′.mir l₁₃) ∷ ‵ (fdies O′.mir l₁₃) ∷ ‵ (s₁₂ N′.mir l₁₂) ∷ ‵ (fdies N′.mir l₁₂) ∷ ‵ (s₁₁ S′.mir l₁₁) ∷ ‵ (fdies S′.mir l₁₁) ∷ ‵ (s₁₀ S′.mir l₁₀) ∷ ‵ (fdies S′.mir l₁₀) ∷ ‵ (s₉ word l₉) ∷ ‵ (fdies word l₉) ∷ ‵ (s₈ word l₈) ∷ ‵ (fdies word l₈) ∷ ‵ (s₇ S′.mir l₇) ∷ ‵ (fdies S′.mir l₇) ∷ ‵ (s₆ word l₆) ∷ ‵ (fdies word l₆) ∷ ‵ (s₅ word l₅) ∷ ‵ (fdies word l₅) ∷ ‵ (Has zv recordsTy l₄) ∷ ‵ (fdies recordsTy l₄) ∷ ‵ (Has xv cellsTy l₃) ∷ ‵ (fdies cellsTy l₃) ∷ ‵ (Has (num limit) word l₂) ∷ ‵ (fdies word l₂) ∷ ‵ (Has (num width) word l₁) ∷ ‵ (fdies word l₁) ∷ ‵ (s₀ O′.mir l₀) ∷ ‵ (fdies O′.mir l₀) ∷ []
 
       -- what is owned of the parameters
       abbrev Owned : List (Item 𝓤) → List (Item 𝓤)
@@ -352,14 +352,14 @@ module _ {M : Type 1} (𝓤 : URA M) (H : Heap 𝓤) (A : Atoms 𝓤) (W : Given
       stores says-all fine =
           assigns ! (addr ! (from ! (fld ! refl (hop ! (look-in ! 36 (sub ! 0 refl (whole !))) (stop !))))) (from ! (stop !)) (init ! 6 refl (tt, tt)) $
           assigns ! (agg ! (and-then ! (loads ! (from ! (stop !)) (look ! 6 refl)) (and-then ! (loads ! (from ! (fld ! refl (stop !))) (look-in ! 36 (sub ! 1 refl (whole !)))) (no-more !)))) (from ! (stop !)) (init ! 4 refl (tt, (tt, (record { fits = gn .0 }, tt)))) $
-          -- `store_cells`: [the token of cells; what cells owns; the token of sums; what sums owns; _19; …]
+          -- `store_cells`: [the token of cells; what cells owns; the token of records; what records owns; _19; …]
           move ! (1 ∷ 0 ∷ []) $ use2 W (raw (StoreCells 𝓤 H A mem run .pre to-back)) (goes-back (sheet-fine ran fine)) $
           calls-at ! fm (StoreCells 𝓤 H A mem run) known-store-cells to-back (and-then ! (loads ! (from ! (stop !)) (look ! 3 refl)) (and-then ! (loads ! (from ! (stop !)) (look ! 13 refl)) (and-then ! (loads ! (from ! (fld ! refl (stop !))) (look-in ! 17 (sub ! 0 refl (whole !)))) (no-more !)))) (λ w.
           use1 W (later (some (λ (r : Unit {0}). ((‵ (flft κ q) ⊛ ‵ ftrue) ⊛ ‵ (Nothing .own r (w ∷ []))) ⊛ raw (ensured 𝓤 H A store-cells.ended (store-cells.clauses 𝓤 H A mem run) (κ, tt) (x γ, (back, (ran .sheet, tt))) tt r)))) (id⊢ 𝓤 _) $ await ! tt $ pick ! (λ r.
           -- what `store_cells` ensures, at some last list
           split ! $ move ! (1 ∷ []) $ use1 W (some (λ (us : List Interval × (Unit {0} × (Unit {0} × Unit {0}))). ‵ (lasts store-cells.ended (κ, tt) (x γ, (back, (ran .sheet, tt))) us) ⊛ raw (fact 𝓤 (us .0 ≡ storedCells ys back (ran .sheet))))) (id⊢ 𝓤 _) $ pick ! (λ us.
           split ! $ move ! (1 ∷ []) $ heard ! (us .0 ≡ storedCells ys back (ran .sheet)) (λ e. fsplit ! $ fsplit ! $ move ! (1 ∷ []) $ feqL ! (λ l.
-          -- [the last list; …; the token and the result; the token of sums; what sums owns; _19; …]
+          -- [the last list; …; the token and the result; the token of records; what records owns; _19; …]
           move ! (2 ∷ []) $ split ! $ move ! (1 ∷ []) $ peeks ! Nothing (Is Nothing) (shows 𝓤 H A Nothing) r (w ∷ []) (λ is. drop ! $
           land ! (from ! (stop !)) (init ! 9 refl (nothing-lawful 𝓤 H A W .typed r _ is .0)) $
           assigns ! (of-opd ! (loads ! (from ! (stop !)) (look ! 17 refl))) (from ! (stop !)) (init ! 43 refl (typed-outcome (ran .outcome) _ (outcome-fine ran fine))) $
@@ -380,15 +380,15 @@ module _ {M : Type 1} (𝓤 : URA M) (H : Heap 𝓤) (A : Atoms 𝓤) (W : Given
           land ! (from ! (stop !)) (init ! 14 refl (typed-num back _ is)) $
           stores all fine₃))
 
-      -- from `load_sums` on
-      loads-sums : Fine S₁ → Sq W (Owned (Locals (Has (num (length ys))) (Has (num (length zs))) (Has (mach S₀)) (Has (num k)) (Has (num j)) (Has (mach S₁)) None None None None (Has (vptr b o)) (Has xv) None None None None)) (runs C Λ En mir.t-9 (atRet En Post))
-      loads-sums fine =
+      -- from `load_records` on
+      loads-records : Fine S₁ → Sq W (Owned (Locals (Has (num (length ys))) (Has (num (length zs))) (Has (mach S₀)) (Has (num k)) (Has (num j)) (Has (mach S₁)) None None None None (Has (vptr b o)) (Has xv) None None None None)) (runs C Λ En mir.t-9 (atRet En Post))
+      loads-records fine =
           move ! (3 ∷ []) $ use1 W (‵ Shr ⊛ ‵ Shr) (shr-slice-copy 𝓤 H A W (named 1) κ′ R.the-row .twice z (zv ∷ [])) $ split ! $
-          -- [what sums owns, twice; what cells owns; its token; the token of sums; _19; …]
-          move ! (4 ∷ 0 ∷ []) $ use2 W (raw (LoadSums 𝓤 H A mem run .pre to-sums)) (goes-sums fine) $
-          calls-is ! fm load-sums.ended (load-sums.clauses 𝓤 H A mem run) known-load-sums to-sums mach (LL.tells S.the-type S′.the-laws) S₂ (λ r e. id⊢ 𝓤 _) (and-then ! (loads ! (from ! (stop !)) (look ! 34 refl)) (and-then ! (loads ! (from ! (stop !)) (look ! 24 refl)) (and-then ! (loads ! (from ! (stop !)) (look ! 22 refl)) (no-more !)))) (λ fine₂. use1 W Tok′ (id⊢ 𝓤 _) $
+          -- [what records owns, twice; what cells owns; its token; the token of records; _19; …]
+          move ! (4 ∷ 0 ∷ []) $ use2 W (raw (LoadRecords 𝓤 H A mem run .pre to-records)) (goes-records fine) $
+          calls-is ! fm load-records.ended (load-records.clauses 𝓤 H A mem run) known-load-records to-records mach (LL.tells S.the-type S′.the-laws) S₂ (λ r e. id⊢ 𝓤 _) (and-then ! (loads ! (from ! (stop !)) (look ! 34 refl)) (and-then ! (loads ! (from ! (stop !)) (look ! 24 refl)) (and-then ! (loads ! (from ! (stop !)) (look ! 22 refl)) (no-more !)))) (λ fine₂. use1 W Tok′ (id⊢ 𝓤 _) $
           land ! (from ! (stop !)) (init ! 20 refl (typed 𝓤 H A W S₂ _ fine₂)) $
-          -- [the token of sums; what sums owns; what cells owns; its token; _19; …]
+          -- [the token of records; what records owns; what cells owns; its token; _19; …]
           move ! (2 ∷ 3 ∷ 0 ∷ 1 ∷ []) $ narrows fine₂)
 
       -- from the address for `load_cells` on: the cells are lent as a `&`, for a lifetime ν of the call
@@ -398,15 +398,15 @@ module _ {M : Type 1} (𝓤 : URA M) (H : Heap 𝓤) (A : Atoms 𝓤) (W : Given
           assigns ! (agg ! (and-then ! (loads ! (from ! (stop !)) (look ! 12 refl)) (and-then ! (loads ! (from ! (fld ! refl (stop !))) (look-in ! 36 (sub ! 1 refl (whole !)))) (no-more !)))) (from ! (stop !)) (init ! 10 refl (tt, (tt, (record { fits = gn .0 }, tt)))) $
           lft-new ! tt (λ ν. move ! (1 ∷ 2 ∷ []) $
           use2 W (later (some (λ (δ : GName). ‵ (ShrSlice (named 0) (ν ∷ []) T.the-row .own (x δ) (xv ∷ [])) ⊛ ‵ (Kept T.the-row κ (ν ∷ []) q γ b o ys)))) (lends-shared T.the-row κ (ν ∷ []) q γ b o 𝓤 H A W (named 0) (named 0) ys gn) $ await ! tt $ pick ! (λ δ. split ! $
-          -- [the lent cells; what is kept of them; the token of ν; the token of sums; what sums owns; _19; …]
+          -- [the lent cells; what is kept of them; the token of ν; the token of records; what records owns; _19; …]
           move ! (2 ∷ 0 ∷ []) $ use2 W (raw (LoadCells 𝓤 H A mem run .pre (to-cells ν δ))) (goes-cells ν δ fine) $
           calls-is ! fm load-cells.ended (load-cells.clauses 𝓤 H A mem run) known-load-cells (to-cells ν δ) mach (LL.tells S.the-type S′.the-laws) S₁ (λ r e. id⊢ 𝓤 _) (and-then ! (loads ! (from ! (stop !)) (look ! 10 refl)) (and-then ! (loads ! (from ! (stop !)) (look ! 26 refl)) (and-then ! (loads ! (from ! (stop !)) (look ! 28 refl)) (no-more !)))) (λ fine₁. use1 W (‵ (flft (ν ∷ []) fullShare) ⊛ ‵ ftrue) (id⊢ 𝓤 _) $
           land ! (from ! (stop !)) (init ! 22 refl (typed 𝓤 H A W S₁ _ fine₁)) $
           -- the lifetime is ended, and the cells come back
           split ! $ lft-end ! tt $ move ! (0 ∷ 2 ∷ []) $
           use2 W (later (‵ Mut ⊛ ‵ (flft κ q))) (shared-back T.the-row κ (ν ∷ []) q γ b o 𝓤 H A W (named 0) (named 0) ys gn) $ await ! tt $ split ! $
-          -- [what cells owns; its token; true; the token of sums; what sums owns; _19; …]
-          move ! (2 ∷ []) $ drop ! $ loads-sums fine₁)))
+          -- [what cells owns; its token; true; the token of records; what records owns; _19; …]
+          move ! (2 ∷ []) $ drop ! $ loads-records fine₁)))
 
       -- from the lengths on
       counts : Sq W (Owned (Locals None None None None None None None None None None None None None None None None)) (runs C Λ En mir.t-1 (atRet En Post))
@@ -427,20 +427,20 @@ module _ {M : Type 1} (𝓤 : URA M) (H : Heap 𝓤) (A : Atoms 𝓤) (W : Given
     walk : ent 𝓤 (onEntry 𝓤 H A f.signature (κ, (κ′, tt)) (q, (q′, tt)) a at) (WpFn 𝓤 H C Λ code.function (num width ∷ num limit ∷ xv ∷ zv ∷ []) Post)
     walk =
         qed W ((‵ (flft κ q) ⊛ ‵ (flft κ′ q′) ⊛ ‵ ftrue) ∷ ‵ (owns (usize ∷ usize ∷ MutSlice (named 0) κ T.the-row ∷ ShrSlice (named 1) κ′ R.the-row ∷ []) a at) ∷ []) ∵
-        -- what is owned of the parameters, apart: [the token of cells; the token of sums; what cells owns; what sums owns; true]
+        -- what is owned of the parameters, apart: [the token of cells; the token of records; what cells owns; what records owns; true]
         move ! (1 ∷ []) $ fsplit ! $ drop ! $ fsplit ! $ drop ! $ fsplit ! $ move ! (1 ∷ []) $ fsplit ! $ move ! (3 ∷ []) $ split ! $ keep ! (4 ∷ 0 ∷ 1 ∷ 2 ∷ []) $
         enter ! C Λ code.function (num width ∷ num limit ∷ xv ∷ zv ∷ []) _ $
         alloc1 ! (λ l₀. alloc1 ! (λ l₁. alloc1 ! (λ l₂. alloc1 ! (λ l₃. alloc1 ! (λ l₄. alloc1 ! (λ l₅. alloc1 ! (λ l₆. alloc1 ! (λ l₇. alloc1 ! (λ l₈. alloc1 ! (λ l₉. alloc1 ! (λ l₁₀. alloc1 ! (λ l₁₁. alloc1 ! (λ l₁₂. alloc1 ! (λ l₁₃. alloc1 ! (λ l₁₄. alloc1 ! (λ l₁₅. alloc1 ! (λ l₁₆. alloc1 ! (λ l₁₇. alloc1 ! (λ l₁₈. alloc1 ! (λ l₁₉. alloc0 ! $ params1 ! $
         pass1 ! (init ! 36 refl (tt, record { fits = gw })) $ pass1 ! (init ! 34 refl (tt, record { fits = gl })) $ pass1 ! (init ! 32 refl (tt, (tt, (record { fits = gn .0 }, tt)))) $ pass1 ! (init ! 30 refl (tt, (tt, (record { fits = gm .0 }, tt)))) $ pass0 ! $
         move ! (40 ∷ 41 ∷ 42 ∷ 43 ∷ []) $ counts l₀ l₁ l₂ l₃ l₄ l₅ l₆ l₇ l₈ l₉ l₁₀ l₁₁ l₁₂ l₁₃ l₁₄ l₁₅ l₁₆ l₁₇ l₁₈ l₁₉))))))))))))))))))))
 
-module _ {M : Type 1} (𝓤 : URA M) (H : Heap 𝓤) (A : Atoms 𝓤) (W : Given 𝓤 H A) (mem : Memory → SProp 𝓤) (run : Routine → Fun 𝓤) (𝓣 : Tables 𝓤 H) (known-count-lists : Triple 𝓤 (𝓣 .C #sheet·lent·count-lists) (CountLists 𝓤 H A mem run)) (known-min : Triple 𝓤 (𝓣 .C #sheet·lent·min) (Min 𝓤 H A mem run)) (known-load-cells : Triple 𝓤 (𝓣 .C #sheet·lent·load-cells) (LoadCells 𝓤 H A mem run)) (known-load-sums : Triple 𝓤 (𝓣 .C #sheet·lent·load-sums) (LoadSums 𝓤 H A mem run)) (known-narrow-sheet : Triple 𝓤 (𝓣 .C #sheet·narrowing·narrow-sheet) (NarrowSheet 𝓤 H A mem run)) (known-stored-count : Triple 𝓤 (𝓣 .C #sheet·lent·stored-count) (StoredCount 𝓤 H A mem run)) (known-store-cells : Triple 𝓤 (𝓣 .C #sheet·lent·store-cells) (StoreCells 𝓤 H A mem run)) where
+module _ {M : Type 1} (𝓤 : URA M) (H : Heap 𝓤) (A : Atoms 𝓤) (W : Given 𝓤 H A) (mem : Memory → SProp 𝓤) (run : Routine → Fun 𝓤) (𝓣 : Tables 𝓤 H) (known-count-lists : Triple 𝓤 (𝓣 .C #sheet·lent·count-lists) (CountLists 𝓤 H A mem run)) (known-min : Triple 𝓤 (𝓣 .C #sheet·lent·min) (Min 𝓤 H A mem run)) (known-load-cells : Triple 𝓤 (𝓣 .C #sheet·lent·load-cells) (LoadCells 𝓤 H A mem run)) (known-load-records : Triple 𝓤 (𝓣 .C #sheet·lent·load-records) (LoadRecords 𝓤 H A mem run)) (known-narrow-sheet : Triple 𝓤 (𝓣 .C #sheet·narrowing·narrow-sheet) (NarrowSheet 𝓤 H A mem run)) (known-stored-count : Triple 𝓤 (𝓣 .C #sheet·lent·stored-count) (StoredCount 𝓤 H A mem run)) (known-store-cells : Triple 𝓤 (𝓣 .C #sheet·lent·store-cells) (StoreCells 𝓤 H A mem run)) where
   narrow-lists-walks : Walks 𝓤 H A f.ended stayed (WpFn 𝓤 H (𝓣 .C) (𝓣 .Λ) code.function) (f.clauses 𝓤 H A mem run)
   narrow-lists-walks = walked 𝓤 H A f.ended stayed (f.clauses 𝓤 H A mem run) (WpFn 𝓤 H (𝓣 .C) (𝓣 .Λ) code.function)
       (λ κs. (uint-vals w64, (uint-vals w64, (slice-vals, (slice-vals, tt))))) (λ κs. (uint-tells w64, (uint-tells w64, (mut-slice-tells (named 0) (κs .0) T.the-row, (shr-slice-tells (named 1) (κs .1 .0) R.the-row, tt)))))
       (λ κs qs bounds a g are. via 𝓤 _ (fst∗ 𝓤 _ (emp 𝓤))
       (walk 𝓤 H A W mem run (κs .0) (κs .1 .0) (qs .0) (qs .1 .0) (a .0) (a .1 .0) (a .1 .1 .0 .ptr .0) (a .1 .1 .0 .ptr .1) (a .1 .1 .0 .name) (a .1 .1 .0 .now) (a .1 .1 .1 .0 .ptr .0) (a .1 .1 .1 .0 .ptr .1) (a .1 .1 .1 .0 .name) (a .1 .1 .1 .0 .now)
-      (are .0 .1) (are .1 .0 .1) (are .1 .1 .0 .0 .1) (are .1 .1 .1 .0 .0 .1) (𝓣 .C) (𝓣 .Λ) (fmOf 𝓤 H (W .laws) 𝓣) known-count-lists known-min known-load-cells known-load-sums known-narrow-sheet known-stored-count known-store-cells))
+      (are .0 .1) (are .1 .0 .1) (are .1 .1 .0 .0 .1) (are .1 .1 .1 .0 .0 .1) (𝓣 .C) (𝓣 .Λ) (fmOf 𝓤 H (W .laws) 𝓣) known-count-lists known-min known-load-cells known-load-records known-narrow-sheet known-stored-count known-store-cells))
 
   narrow-lists-meets : Meets 𝓤 H A f.signature (WpFn 𝓤 H (𝓣 .C) (𝓣 .Λ) code.function) (f.spec 𝓤 H A mem run)
   narrow-lists-meets =
@@ -456,7 +456,7 @@ narrow-lists-spec 𝓤 H 𝓜 𝓖 𝓡 =
     (cited 𝓤 H (CountLists 𝓤 H (𝓖 .A) (𝓜 .mem) (𝓡 .run)) 𝓜 𝓡 code.env #sheet·lent·count-lists count-lists-def.routine code.calls-sheet·lent·count-lists (count-lists-thm.met 𝓤 H 𝓜 𝓖 𝓡))
     (cited 𝓤 H (Min 𝓤 H (𝓖 .A) (𝓜 .mem) (𝓡 .run)) 𝓜 𝓡 code.env #sheet·lent·min min-def.routine code.calls-sheet·lent·min (min-thm.met 𝓤 H 𝓜 𝓖 𝓡))
     (cited 𝓤 H (LoadCells 𝓤 H (𝓖 .A) (𝓜 .mem) (𝓡 .run)) 𝓜 𝓡 code.env #sheet·lent·load-cells load-cells-def.routine code.calls-sheet·lent·load-cells (load-cells-thm.met 𝓤 H 𝓜 𝓖 𝓡))
-    (cited 𝓤 H (LoadSums 𝓤 H (𝓖 .A) (𝓜 .mem) (𝓡 .run)) 𝓜 𝓡 code.env #sheet·lent·load-sums load-sums-def.routine code.calls-sheet·lent·load-sums (load-sums-thm.met 𝓤 H 𝓜 𝓖 𝓡))
+    (cited 𝓤 H (LoadRecords 𝓤 H (𝓖 .A) (𝓜 .mem) (𝓡 .run)) 𝓜 𝓡 code.env #sheet·lent·load-records load-records-def.routine code.calls-sheet·lent·load-records (load-records-thm.met 𝓤 H 𝓜 𝓖 𝓡))
     (cited 𝓤 H (NarrowSheet 𝓤 H (𝓖 .A) (𝓜 .mem) (𝓡 .run)) 𝓜 𝓡 code.env #sheet·narrowing·narrow-sheet narrow-sheet-def.routine code.calls-sheet·narrowing·narrow-sheet (narrow-sheet-thm.met 𝓤 H 𝓜 𝓖 𝓡))
     (cited 𝓤 H (StoredCount 𝓤 H (𝓖 .A) (𝓜 .mem) (𝓡 .run)) 𝓜 𝓡 code.env #sheet·lent·stored-count stored-count-def.routine code.calls-sheet·lent·stored-count (stored-count-thm.met 𝓤 H 𝓜 𝓖 𝓡))
     (cited 𝓤 H (StoreCells 𝓤 H (𝓖 .A) (𝓜 .mem) (𝓡 .run)) 𝓜 𝓡 code.env #sheet·lent·store-cells store-cells-def.routine code.calls-sheet·lent·store-cells (store-cells-thm.met 𝓤 H 𝓜 𝓖 𝓡)))

@@ -11,8 +11,8 @@ use mathlib.Core.Path.{_≡_, sym, ap, subst, _∙_}
 use Rattle.sheet.proofs.narrowing.narrow_sheet.Statement.{statement}
 use Rattle.sheet.proofs.narrowing.narrow_sheet.Tie as tie
 
-long : (c : tie.Start) → (length (c .args .sheet .cells) ≡ 64) × (length (c .args .sheet .sums) ≡ 128)
-long c = (mapped-long _ (c .args .sheet .cells) 64 (c .good .0 .1 .1 .1 .1 .1 .1 .0 .1 .0 .1), mapped-long _ (c .args .sheet .sums) 128 (c .good .0 .1 .1 .1 .1 .1 .1 .1 .0 .1 .0 .1))
+long : (c : tie.Start) → (length (c .args .sheet .cells) ≡ 64) × (length (c .args .sheet .records) ≡ 128)
+long c = (mapped-long _ (c .args .sheet .cells) 64 (c .good .0 .1 .1 .1 .1 .1 .1 .0 .1 .0 .1), mapped-long _ (c .args .sheet .records) 128 (c .good .0 .1 .1 .1 .1 .1 .1 .1 .0 .1 .0 .1))
 
 test-sheet-requires : tie.Need-test-sheet-requires
 test-sheet-requires c κs = tt

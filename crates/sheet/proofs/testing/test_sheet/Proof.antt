@@ -1,7 +1,7 @@
 -- `test_sheet` meets its contract: each way out is a law of Answers.
 -- Assumes nothing.
-use Rattle.sheet.proofs.Answers.{test-head, test-many-cells, test-many-sums, test-bad-cell, test-good-cells}
-use Rattle.sheet.specs.Sheets.{usedCells, usedSums}
+use Rattle.sheet.proofs.Answers.{test-head, test-many-cells, test-many-records, test-bad-cell, test-good-cells}
+use Rattle.sheet.specs.Sheets.{usedCells, usedRecords}
 use native.Mathlib.Omega.{arith}
 use mathlib.Core.Path.{sym, _∙_}
 use Rattle.sheet.proofs.testing.test_sheet.Statement.{statement}
@@ -17,7 +17,7 @@ returns : tie.Need-returns
 returns c =
     let s = c .before .before .before .args .sheet in
     let h = c .before .before .head-fault in
-    c .refuse-at .ensures ∙ rw (h .ensures) (test-head (s .width) (s .limit) (s .«cell_count») (s .«sum_count») (usedCells s) (usedSums s) (λ e. c .before .if1 .taken (h .ensures ∙ e)))
+    c .refuse-at .ensures ∙ rw (h .ensures) (test-head (s .width) (s .limit) (s .«cell_count») (s .«record_count») (usedCells s) (usedRecords s) (λ e. c .before .if1 .taken (h .ensures ∙ e)))
 
 refuse-at-requires-2 : tie.Need-refuse-at-requires-2
 refuse-at-requires-2 c κs = tt
@@ -26,7 +26,7 @@ returns-2 : tie.Need-returns-2
 returns-2 c =
     let s = c .before .before .before .before .before .args .sheet in
     let h = c .before .before .before .before .head-fault in
-    c .refuse-at2 .ensures ∙ test-many-cells (s .width) (s .limit) (s .«cell_count») (s .«sum_count») (usedCells s) (usedSums s) (sym (h .ensures) ∙ c .before .before .before .if1 .left) (c .before .if2 .taken)
+    c .refuse-at2 .ensures ∙ test-many-cells (s .width) (s .limit) (s .«cell_count») (s .«record_count») (usedCells s) (usedRecords s) (sym (h .ensures) ∙ c .before .before .before .if1 .left) (c .before .if2 .taken)
 
 refuse-at-requires-3 : tie.Need-refuse-at-requires-3
 refuse-at-requires-3 c κs = tt
@@ -35,7 +35,7 @@ returns-3 : tie.Need-returns-3
 returns-3 c =
     let s = c .before .before .before .before .before .before .before .args .sheet in
     let h = c .before .before .before .before .before .before .head-fault in
-    c .refuse-at3 .ensures ∙ test-many-sums (s .width) (s .limit) (s .«cell_count») (s .«sum_count») (usedCells s) (usedSums s) (sym (h .ensures) ∙ c .before .before .before .before .before .if1 .left) (c .before .before .before .if2 .left) (c .before .if3 .taken)
+    c .refuse-at3 .ensures ∙ test-many-records (s .width) (s .limit) (s .«cell_count») (s .«record_count») (usedCells s) (usedRecords s) (sym (h .ensures) ∙ c .before .before .before .before .before .if1 .left) (c .before .before .before .if2 .left) (c .before .if3 .taken)
 
 test-cells-requires : tie.Need-test-cells-requires
 test-cells-requires c κs = omega arith
@@ -47,19 +47,19 @@ returns-4 : tie.Need-returns-4
 returns-4 c =
     let s = c .before .before .before .before .before .before .before .before .before .before .before .args .sheet in
     let h = c .before .before .before .before .before .before .before .before .before .before .head-fault in
-    test-bad-cell (s .width) (s .limit) (s .«cell_count») (s .«sum_count») (usedCells s) (usedSums s) (sym (h .ensures) ∙ c .before .before .before .before .before .before .before .before .before .if1 .left) (c .before .before .before .before .before .before .before .if2 .left) (c .before .before .before .before .before .if3 .left) _ (sym (c .before .before .before .test-cells .ensures) ∙ c .before .found .given .1)
+    test-bad-cell (s .width) (s .limit) (s .«cell_count») (s .«record_count») (usedCells s) (usedRecords s) (sym (h .ensures) ∙ c .before .before .before .before .before .before .before .before .before .if1 .left) (c .before .before .before .before .before .before .before .if2 .left) (c .before .before .before .before .before .if3 .left) _ (sym (c .before .before .before .test-cells .ensures) ∙ c .before .found .given .1)
 
 enum-told : tie.Need-enum-told
 enum-told c = c .match .keys2
 
-test-sums-requires : tie.Need-test-sums-requires
-test-sums-requires c κs = omega arith
+test-records-requires : tie.Need-test-records-requires
+test-records-requires c κs = omega arith
 
 returns-5 : tie.Need-returns-5
 returns-5 c =
     let s = c .before .before .before .before .before .before .before .before .before .before .before .before .args .sheet in
     let h = c .before .before .before .before .before .before .before .before .before .before .before .head-fault in
-    c .test-sums .ensures ∙ test-good-cells (s .width) (s .limit) (s .«cell_count») (s .«sum_count») (usedCells s) (usedSums s) (sym (h .ensures) ∙ c .before .before .before .before .before .before .before .before .before .before .if1 .left) (c .before .before .before .before .before .before .before .before .if2 .left) (c .before .before .before .before .before .before .if3 .left) (sym (c .before .before .before .before .test-cells .ensures) ∙ c .before .before .enum-told .given .1)
+    c .test-records .ensures ∙ test-good-cells (s .width) (s .limit) (s .«cell_count») (s .«record_count») (usedCells s) (usedRecords s) (sym (h .ensures) ∙ c .before .before .before .before .before .before .before .before .before .before .if1 .left) (c .before .before .before .before .before .before .before .before .if2 .left) (c .before .before .before .before .before .before .if3 .left) (sym (c .before .before .before .before .test-cells .ensures) ∙ c .before .before .enum-told .given .1)
 
 pub test-sheet-spec : {M : Type 1} → statement M
 test-sheet-spec =
@@ -76,5 +76,5 @@ test-sheet-spec =
     enum-known-found
     returns-4
     enum-told
-    test-sums-requires
+    test-records-requires
     returns-5)
