@@ -70,11 +70,3 @@ impl Range {
         Range { low: -self.high, high: -self.low }
     }
 }
-
-/// The three ranges of a sum, narrowed.
-#[derive(Clone, Copy, PartialEq, Eq, Debug)]
-pub struct Narrowed {
-    pub x: Range,
-    pub a: Range,
-    pub b: Range,
-}

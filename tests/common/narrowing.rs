@@ -1,7 +1,15 @@
 //! Narrowing of one sum by galloping search over the hardware's addition. Not verified; the differential test holds it to
 //! brute force, as it does the library.
 
-use crate::floats::{Narrowed, Place, Range, Width};
+use crate::floats::{Place, Range, Width};
+
+/// The three ranges of a sum, narrowed.
+#[derive(Clone, Copy, PartialEq, Eq, Debug)]
+pub struct Narrowed {
+    pub x: Range,
+    pub a: Range,
+    pub b: Range,
+}
 
 /// From a place where the test holds, down by doubled steps: a place where it fails and one above it where it holds, or the
 /// range's low end, where it holds.

@@ -1,6 +1,7 @@
 //! Narrowing by trying everything: every pair of operands, or every operand and sum.
 
-use crate::floats::{Narrowed, Place, Range, Width};
+use crate::floats::{Place, Range, Width};
+use crate::narrowing::Narrowed;
 
 impl Range {
     pub fn point(place: Place) -> Range {

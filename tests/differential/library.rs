@@ -1,7 +1,8 @@
 //! The C entries, which answer alike, and their answers as ranges by place.
 
 use crate::ends;
-use crate::floats::{Narrowed, Range, Width};
+use crate::floats::{Range, Width};
+use crate::narrowing::Narrowed;
 use crate::tazsmibor;
 
 /// Both entries on the same bytes; the run ends where they differ.

@@ -20,7 +20,8 @@ mod garbage;
 mod library;
 mod pieces;
 
-use floats::{Binary32, Binary64, Narrowed, Range, Width};
+use floats::{Binary32, Binary64, Range, Width};
+use narrowing::Narrowed;
 use words::Words;
 
 const SHORT: usize = 12_000;

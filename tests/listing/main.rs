@@ -6,6 +6,8 @@
 mod floats;
 #[path = "../common/narrowing.rs"]
 mod narrowing;
+#[path = "../common/program.rs"]
+mod program;
 #[path = "../common/sheet.rs"]
 mod sheet;
 #[path = "../common/words.rs"]
@@ -14,33 +16,9 @@ mod words;
 mod documented;
 mod texts;
 
+use program::run;
 use std::collections::BTreeMap;
-use std::io::Write;
-use std::process::{Command, Stdio};
-use std::thread::sleep;
-use std::time::Duration;
 use texts::Case;
-
-/// What the program writes for a text that comes in parts, with a pause after each but the last.
-fn run(program: &str, parts: &[&[u8]]) -> String {
-    let mut child = Command::new(program)
-        .stdin(Stdio::piped())
-        .stdout(Stdio::piped())
-        .spawn()
-        .unwrap_or_else(|e| panic!("listing: cannot start {program}: {e}"));
-    let mut input = child.stdin.take().unwrap();
-    for (i, part) in parts.iter().enumerate() {
-        if i != 0 {
-            sleep(Duration::from_millis(20));
-        }
-        // The program may stop reading early: a closed pipe is no fault.
-        let _ = input.write_all(part);
-    }
-    drop(input);
-    let output = child.wait_with_output().expect("listing: no output");
-    assert!(output.status.success(), "listing: {program} ended with {}", output.status);
-    String::from_utf8_lossy(&output.stdout).into_owned()
-}
 
 /// Compares a kind of texts: the program with the reference, and both with the requirement where it gives the listing.
 fn compare(program: &str, kind: &str, cases: Vec<Case>) -> usize {

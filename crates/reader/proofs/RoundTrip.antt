@@ -18,7 +18,7 @@ use Rattle.sheet.specs.Sheets.{blank, usedCells, usedRecords, tidied, testOf}
 use Rattle.sheet.specs.Lists.{testOfLists}
 use Rattle.sheet.proofs.Answers.{opened, all-good}
 use Rattle.sheet.proofs.Records.{names-of, first-in, second-in, third-in}
-use Rattle.sheet.proofs.Tidied.{good-head}
+use Rattle.sheet.proofs.Tested.{good-head}
 use Rattle.reader.specs.Bytes.{indexOf, countOf}
 use Rattle.reader.specs.Lines.{feed}
 use Rattle.reader.specs.Steps.{start, headStep, cellStep, recordStep, admitted, nextOf}

@@ -1,6 +1,6 @@
 -- Laws of boxes: a cell set, containment, and equality by place.
 -- Assumes nothing.
-use mathlib.Core.Path.{_≡_, refl}
+use mathlib.Core.Path.{_≡_, refl, _∙_}
 use mathlib.Core.Bool.{Bool, true, false, _&&_, and-eq-true-iff}
 use mathlib.Core.List.{[], _∷_}
 use Prim.Native.Nat.{ℕ, _<_}
@@ -41,14 +41,17 @@ around c d h i = go (decLt i (length c))
 pub contains : (c d : Box) → length d ≡ length c → Around c d → Contains c d
 contains c d e h = record { cells = e; inside = λ i l. h i }
 
-pub around-self : (c : Box) → Around c c
-around-self c i = record { low = omega arith; high = omega arith }
+pub contains-self : (c : Box) → Contains c c
+contains-self c = contains c c refl (λ i. record { low = omega arith; high = omega arith })
 
-pub around-all : (c d e : Box) → Around c d → Around d e → Around c e
-around-all c d e p q i =
-    let h = p i in
-    let k = q i in
-    record { low = omega arith; high = omega arith }
+pub contains-all : (c d e : Box) → Contains c d → Contains d e → Contains c e
+contains-all c d e p q = contains c e (q .cells ∙ p .cells) inside
+  where
+    inside : Around c e
+    inside i =
+        let h = around c d p i in
+        let k = around d e q i in
+        record { low = omega arith; high = omega arith }
 
 -- ---- equality
 pub same-interval : (I J : Interval) → Inside I J → Inside J I → I ≡ J
@@ -58,8 +61,8 @@ same-interval I J p q =
     λ k. record { low = l k; high = h k }
 
 -- boxes that contain each other are equal
-pub contained-both : (c d : Box) → length c ≡ length d → Around c d → Around d c → c ≡ d
-contained-both c d e p q = ext-getD (record { low = 0; high = 0 }) c d e (λ i l. same-interval (at c i) (at d i) (p i) (q i))
+pub contained-both : (c d : Box) → Contains c d → Contains d c → c ≡ d
+contained-both c d p q = ext-getD (record { low = 0; high = 0 }) c d (q .cells) (λ i l. same-interval (at c i) (at d i) (around c d p i) (around d c q i))
 
 pub same-is : (c d : Box) → sameBox c d ≡ true → c ≡ d
 unfolding sameBox

@@ -1,12 +1,13 @@
 -- The answer of narrowing a sheet, from how its run ended.
 -- Assumes nothing.
 use mathlib.Core.Path.{_≡_, refl, sym, ap, ap₂, subst, _∙_}
-use mathlib.Core.List.{[], _∷_}
-use Prim.Native.Nat.{ℕ, _<_}
+use mathlib.Core.List.{List, [], _∷_}
+use Prim.Native.Nat.{ℕ}
 use native.Mathlib.Omega.{arith}
-use lib.ListN.{length, getD}
-use lib.Seq.{getD-take}
+use lib.ListN.{length, length-map}
+use Rattle.arith.specs.declared.interval.Interval.{Interval}
 use Rattle.arith.specs.declared.refusal.Refusal.{Refusal}
+use Rattle.sheet.specs.declared.kept.Record.{Record}
 use Rattle.sheet.specs.declared.kept.Sheet.{Sheet}
 use Rattle.sheet.specs.declared.kept.Answer.{Answer}
 use Rattle.sheet.specs.declared.kept.Answer.the-variants as Answer
@@ -14,20 +15,21 @@ use Rattle.sheet.specs.declared.passes.Outcome.{Outcome}
 use Rattle.sheet.specs.declared.passes.Outcome.the-variants.{NoTriple, Refused}
 use Rattle.sheet.specs.declared.passes.Halted.{Halted}
 use Rattle.sheet.specs.declared.narrowing.Run.{Run}
-use Rattle.sheet.specs.Cells.{fractionOf, exponentOf, boxOf}
-use Rattle.sheet.specs.Sheets.{noRecord, places, usedCells, usedRecords, tidied, withCells, testOf}
+use Rattle.sheet.specs.Cells.{fractionOf, exponentOf, rulesOf, boxOf, cellsOf}
+use Rattle.sheet.specs.Sheets.{places, usedCells, usedRecords, tidied, withCells, testOf}
 use Rattle.sheet.specs.Boxes.{Box, IsBox}
-use Rattle.sheet.specs.Members.{Each}
-use Rattle.sheet.specs.Records.{named, Names}
 use Rattle.sheet.specs.Runs.{Ended, settled, stopped, noTriple, leftBy, lastBox, endNumber, endValues}
 use Rattle.sheet.specs.Consistency.{AllNames}
 use Rattle.sheet.specs.Loops.{EndsAs}
+use Rattle.sheet.specs.Planning.{InsideOrFails}
+use Rattle.sheet.specs.Lists.{endOfLists}
 use Rattle.sheet.specs.Narrowings.{outcomeNumber, outcomeValues, endOf, withBox, outcomeBy, ranOn, runAfter, narrowSheetOf, Narrows}
-use Rattle.sheet.proofs.Members.{each-at}
-use Rattle.sheet.proofs.Demand.{run-box, run-demand3}
+use Rattle.sheet.proofs.Shrinking.{run-inside, run-box}
+use Rattle.sheet.proofs.Demand.{run-demand3}
 use Rattle.sheet.proofs.Numbers.{test-number}
-use Rattle.sheet.proofs.Places.{box-found}
-use Rattle.sheet.proofs.Tidied.{first-box, records-name, records-counted}
+use Rattle.sheet.proofs.Places.{places-used, box-written}
+use Rattle.sheet.proofs.Tested.{first-box, first-names}
+use Rattle.sheet.proofs.Tidied.{cells-counted}
 
 -- ---- the outcome of a run
 -- its number and values are those of how it ended
@@ -72,38 +74,53 @@ refused-narrows s r t =
       demand3 = record { settled = λ z. absurd (omega arith); stopped = λ z. absurd (omega arith); none = λ z. absurd (omega arith) };
     }
 
+-- the cells in use that a run leaves, by how it ended
+used-by :
+    (s : Sheet) (e : Ended) → length (usedCells s) ≡ s .«cell_count» → InsideOrFails (boxOf (s .width) (usedCells s)) e →
+    usedCells (ranOn s e .sheet) ≡ leftBy (cellsOf (s .width)) (usedCells s) e
+unfolding tidied
+used-by s (settled p box) n w = places-used (s .width) (s .«cell_count») box (w .cells ∙ length-map (usedCells s) _ ∙ n)
+used-by s (stopped p box) n w = places-used (s .width) (s .«cell_count») box (w .cells ∙ length-map (usedCells s) _ ∙ n)
+used-by s (noTriple p k) n w = refl
+
+-- and the box of the cells that are left
+left-box :
+    (width n : ℕ) (cells : List Interval) (e : Ended) → IsBox (fractionOf width) (exponentOf width) n (lastBox (boxOf width cells) e) →
+    boxOf width (leftBy (cellsOf width) cells e) ≡ lastBox (boxOf width cells) e
+left-box width n cells (settled p box) b = box-written width n box b
+left-box width n cells (stopped p box) b = box-written width n box b
+left-box width n cells (noTriple p k) b = refl
+
+pub run-left-box :
+    (width limit n : ℕ) (cells : List Interval) (records : List Record) → IsBox (fractionOf width) (exponentOf width) n (boxOf width cells) →
+    boxOf width (leftBy (cellsOf width) cells (endOfLists width limit cells records)) ≡ lastBox (boxOf width cells) (endOfLists width limit cells records)
+run-left-box width limit n cells records b =
+    left-box width n cells (endOfLists width limit cells records) (run-box (rulesOf width) (fractionOf width) (exponentOf width) n records limit (boxOf width cells) b)
+
 -- a sheet that is run
-module _ (s : Sheet) (cells-long : length (s .cells) ≡ 64) (records-long : length (s .records) ≡ 128) (t : testOf s ≡ Answer.Done) where
-  -- its last box is that of the sheet it leaves
-  last-is :
-      (e : Ended) → IsBox (fractionOf (s .width)) (exponentOf (s .width)) (s .«cell_count») (lastBox (boxOf (s .width) (usedCells s)) e) →
-      lastBox (boxOf (s .width) (usedCells s)) e ≡ boxOf (s .width) (usedCells (ranOn s e .sheet))
-  unfolding tidied
-  last-is (settled p box) is = sym (box-found (s .width) (s .«cell_count») box is)
-  last-is (stopped p box) is = sym (box-found (s .width) (s .«cell_count») box is)
-  last-is (noTriple p k) is = refl
+module _ (s : Sheet) (long : length (s .cells) ≡ 64) (t : testOf s ≡ Answer.Done) where
+  abbrev first : Box
+  first = boxOf (s .width) (usedCells s)
+
+  is-first : IsBox (fractionOf (s .width)) (exponentOf (s .width)) (length first) first
+  is-first = first-box (s .width) (s .limit) (s .«cell_count») (s .«record_count») (usedCells s) (usedRecords s) t (cells-counted s t long)
+
+  names : AllNames (length first) (usedRecords s)
+  names = first-names (s .width) (s .limit) (s .«cell_count») (s .«record_count») (usedCells s) (usedRecords s) t (cells-counted s t long)
+
+  -- the cells in use that it leaves
+  pub used-left : usedCells (ranOn s (endOf s) .sheet) ≡ leftBy (cellsOf (s .width)) (usedCells s) (endOf s)
+  used-left = used-by s (endOf s) (cells-counted s t long) (run-inside (rulesOf (s .width)) (usedRecords s) (s .limit) first)
 
   pub run-narrows : (r : Run) → r ≡ ranOn s (endOf s) → Narrows s r
   unfolding narrowSheetOf
   run-narrows r e =
-      let b = first-box s cells-long records-long t in
-      let n = b .cells in
-      let first = boxOf (s .width) (usedCells s) in
-      let is : IsBox (fractionOf (s .width)) (exponentOf (s .width)) (length first) first = rw n b in
-      let whole = run-demand3 (fractionOf (s .width)) (exponentOf (s .width)) (usedRecords s) (s .limit) first is all-named in
-      let box = rw n at (run-box (fractionOf (s .width)) (exponentOf (s .width)) (usedRecords s) (s .limit) first is all-named) in
+      let last = ap (boxOf (s .width)) used-left ∙ run-left-box (s .width) (s .limit) (length first) (usedCells s) (usedRecords s) is-first in
+      let whole = run-demand3 (fractionOf (s .width)) (exponentOf (s .width)) (usedRecords s) (s .limit) first is-first names in
       record {
         answer = e ∙ ap (λ (a : Answer). runAfter a s) (sym t);
         told = λ d. rw e (told-by (endOf s));
         refused = λ q u. absurd (let z : _≡_ {A = ℕ} 0 1 = cc in omega arith);
         kept = subst (λ (u : Run). (outcomeNumber (u .outcome) ≡ 0 → ⊥) → (outcomeNumber (u .outcome) ≡ 12 → ⊥) → u .sheet ≡ s) (sym e) (left-by (withBox s) s (endOf s));
-        demand3 = rw e (rw (told-by (endOf s) .0, ← (last-is (endOf s) box)) whole);
+        demand3 = rw e (rw (told-by (endOf s) .0, last) whole);
       }
-    where
-      at-place : (k : ℕ) → k < s .«record_count» → Names (length (boxOf (s .width) (usedCells s))) (getD (usedRecords s) k noRecord)
-      at-place k l = rw (first-box s cells-long records-long t .cells, getD-take (s .«record_count») (s .records) k noRecord l) (records-name s cells-long records-long t k l)
-
-      all-named : AllNames (length (boxOf (s .width) (usedCells s))) (usedRecords s)
-      all-named =
-          each-at (λ r. Each (λ i. i < length (boxOf (s .width) (usedCells s))) (named r)) noRecord (usedRecords s)
-          (λ k l. at-place k (rw (records-counted s cells-long records-long t) at l) .cells)

@@ -3,8 +3,7 @@ use mathlib.Core.Path.{_≡_, ap}
 use Prim.Native.Nat.{ℕ}
 use Rattle.sheet.specs.declared.kept.Record.{Record}
 use Rattle.sheet.specs.Members.{Each}
-use Rattle.sheet.specs.Records.{Kind, sum, diff, neg, kindOf, namedBy, Values, fitsBy, fits}
-use Rattle.sheet.proofs.Searching.{Local}
+use Rattle.sheet.specs.Records.{Kind, sum, diff, neg, kindOf, namedBy, Values, fitsBy, Local, fits}
 
 module _ (f e : ℕ) where
   -- of a known kind

@@ -89,21 +89,21 @@ module _ (s : Sheet) (h : Sound s) where
   g = good s h
 
   cells-used : length (map (canonicalCell (s .width)) (usedCells s)) ≡ s .«cell_count»
-  cells-used = length-map (usedCells s) (canonicalCell (s .width)) ∙ cells-counted s (h .cells-long) (h .records-long) (h .passes)
+  cells-used = length-map (usedCells s) (canonicalCell (s .width)) ∙ cells-counted s (h .passes) (h .cells-long)
 
   tidied-cell : (i : ℕ) → i < s .«cell_count» → getD (tidied s .cells) i noCell ≡ canonicalCell (s .width) (getD (s .cells) i noCell)
   unfolding tidied
   tidied-cell i l =
       let a = cells-used in
       List·getD-append (map (canonicalCell (s .width)) (usedCells s)) (replicate (64 - s .«cell_count») noCell) noCell i (omega arith)
-      ∙ getD-under (canonicalCell (s .width)) (usedCells s) i noCell noCell (rw (cells-counted s (h .cells-long) (h .records-long) (h .passes)) l)
+      ∙ getD-under (canonicalCell (s .width)) (usedCells s) i noCell noCell (rw (cells-counted s (h .passes) (h .cells-long)) l)
       ∙ ap (canonicalCell (s .width)) (getD-take (s .«cell_count») (s .cells) i noCell l)
 
   tidied-good : Good (tidied s)
   unfolding tidied
   tidied-good = record {
     cells-long = length-filled 64 (s .«cell_count») noCell (map (canonicalCell (s .width)) (usedCells s)) cells-used (g .few-cells);
-    records-long = length-filled 128 (s .«record_count») noRecord (usedRecords s) (records-counted s (h .cells-long) (h .records-long) (h .passes)) (g .few-records);
+    records-long = length-filled 128 (s .«record_count») noRecord (usedRecords s) (records-counted s (h .passes) (h .records-long)) (g .few-records);
     head = g .head;
     few-cells = g .few-cells;
     few-records = g .few-records;

@@ -1,4 +1,5 @@
 pub mod Members
+pub mod Shrinking
 pub mod Searching
 pub mod Stepping
 pub mod Fitting
@@ -12,17 +13,21 @@ pub mod Boxes
 pub mod Demand
 pub mod Runs
 pub mod Outcomes
+pub mod PlannedRuns
 pub mod Unnamed
 pub mod Comparing
 pub mod Places
 pub mod Mirroring
 pub mod Steps
 pub mod Records
+pub mod Tested
 pub mod Tidied
 pub mod Numbers
 pub mod Finishing
 pub mod Growing
 pub mod Lists
+pub mod Calls
+pub mod PlannedCalls
 pub mod Walks
 pub mod Loading
 pub mod Shared

@@ -2,7 +2,7 @@
 -- Assumes nothing.
 use mathlib.Core.Path.{_≡_, refl, sym, ap, subst, _∙_}
 use mathlib.Core.List.{List, [], _∷_, _++_, append-nil}
-use Prim.Native.Nat.{ℕ, zero, suc, _-_, _<_, _≤_, min}
+use Prim.Native.Nat.{ℕ, zero, suc, _<_, _≤_, min}
 use native.Mathlib.Nat.{not-suc-le-zero, le-of-suc-le-suc}
 use native.Mathlib.Omega.{arith}
 use native.Mathlib.Decide.{decLt}
@@ -18,18 +18,19 @@ use Rattle.sheet.specs.declared.passes.Outcome.{Outcome}
 use Rattle.sheet.specs.declared.narrowing.Run.{Run}
 use Rattle.sheet.specs.Faults.{headFault}
 use Rattle.sheet.specs.Sheets.{noCell, noRecord, places, usedCells, usedRecords, tidied, testLists, testOf}
-use Rattle.sheet.specs.Records.{Rules}
 use Rattle.sheet.specs.Boxes.{Box}
-use Rattle.sheet.specs.Runs.{Ended, settled, stopped, noTriple, run, endNumber, endValues}
+use Rattle.sheet.specs.Runs.{Ended, settled, stopped, noTriple, endNumber, endValues}
 use Rattle.sheet.specs.Consistency.{Demand3}
 use Rattle.sheet.specs.Cells.{fractionOf, exponentOf, rulesOf, boxOf, cellsOf}
 use Rattle.sheet.specs.Narrowings.{outcomeNumber, outcomeValues, endOf, ranOn, runAfter, narrowSheetOf, Narrows}
 use Rattle.sheet.specs.Loading.{puts, storedCells, storedCount, sheetOf}
+use Rattle.sheet.specs.Planning.{InsideOrFails}
 use Rattle.sheet.specs.Lists.{Lent, endOfLists, testOfLists, lentBy, lentAfter, narrowListsOf, NarrowsLists}
 use Rattle.sheet.proofs.Answers.{test-head, test-many-cells, test-many-records}
 use Rattle.sheet.proofs.Filling.{length-filled}
 use Rattle.sheet.proofs.Numbers.{head-small}
-use Rattle.sheet.proofs.Runs.{pass-sized, run-all}
+use Rattle.sheet.proofs.Shrinking.{run-inside}
+use Rattle.sheet.proofs.Places.{places-used}
 use Rattle.sheet.proofs.Finishing.{told-by, left-by}
 
 -- ---- members put one by one
@@ -49,21 +50,6 @@ module _ {A : Type 0} (d : A) where
   put-in from to most l m =
       let n : min (length from) most ≡ length from = omega arith in
       rw (n, puts-is from (length from) to (omega arith) (omega arith), take-length from) (take-at from (drop (length from) to) (length from) refl)
-
--- ---- the run keeps the number of cells
-abbrev Sized : ℕ → Ended → Type 0
-Sized n (settled p box) = length box ≡ n
-Sized n (stopped p box) = length box ≡ n
-Sized n (noTriple p k) = Unit {0}
-
-run-sized : (rules : Rules) (records : List Record) (limit : ℕ) (first : Box) → Sized (length first) (run rules records limit first)
-run-sized rules records limit first =
-    run-all rules records (λ (c : Box). length c ≡ length first) (Sized (length first))
-    (λ c d q h. pass-sized rules records c d h ∙ q)
-    (λ p c q h. q)
-    (λ p c q. q)
-    (λ p k c q h. tt)
-    limit first refl
 
 -- ---- the answers
 module _ (width limit : ℕ) (ys : List Interval) (zs : List Record) where
@@ -131,29 +117,20 @@ module _ (width limit : ℕ) (ys : List Interval) (zs : List Record) where
     unfolding sheetOf
     same-end = λ i. endOfLists width limit (used-cells i) (used-records i)
 
-    -- the cells of a box in the sheet's places
-    used-box : (box : Box) → length box ≡ length ys → take (length ys) (places width (length ys) box) ≡ cellsOf width box
-    used-box box l = take-at (cellsOf width box) (replicate (64 - length ys) noCell) (length ys) (length-map box _ ∙ l)
-
     kept-box : (box : Box) → length box ≡ length ys → puts noCell (places width (length ys) box) (min (length ys) 64) ys ≡ cellsOf width box
     kept-box box l =
         let n : min (length ys) 64 ≡ length ys = omega arith in
         let m : length (places width (length ys) box) ≡ 64 = length-filled 64 (length ys) noCell (cellsOf width box) (length-map box _ ∙ l) few-cells in
-        rw (n, puts-is noCell (places width (length ys) box) (length ys) ys (omega arith) (omega arith), used-box box l, drop-length ys) (append-nil (cellsOf width box))
+        rw (n, puts-is noCell (places width (length ys) box) (length ys) ys (omega arith) (omega arith), places-used width (length ys) box l, drop-length ys) (append-nil (cellsOf width box))
 
-    by-end : (E : Ended) → Sized (length ys) E → Same (ranOn made E) (lentBy width ys E)
+    by-end : (E : Ended) → InsideOrFails (boxOf width ys) E → Same (ranOn made E) (lentBy width ys E)
     unfolding sheetOf tidied
-    by-end (settled p box) l = record { outcome = refl; cells = kept-box box l; used = used-box box l }
-    by-end (stopped p box) l = record { outcome = refl; cells = kept-box box l; used = used-box box l }
-    by-end (noTriple p k) l = record { outcome = refl; cells = refl; used = used-cells }
-
-    sized : Sized (length ys) (endOf made)
-    sized =
-        subst (λ (n : ℕ). Sized n (endOf made)) (length-map (usedCells made) _ ∙ ap length used-cells)
-        (run-sized (rulesOf (made .width)) (usedRecords made) (made .limit) (boxOf (made .width) (usedCells made)))
+    by-end (settled p box) w = let l = w .cells ∙ length-map ys _ in record { outcome = refl; cells = kept-box box l; used = places-used width (length ys) box l }
+    by-end (stopped p box) w = let l = w .cells ∙ length-map ys _ in record { outcome = refl; cells = kept-box box l; used = places-used width (length ys) box l }
+    by-end (noTriple p k) w = record { outcome = refl; cells = refl; used = used-cells }
 
     by-test : (a : Answer) → Same (runAfter a made) (lentAfter a width limit ys zs)
-    by-test Done = subst (λ (E : Ended). Same (ranOn made (endOf made)) (lentBy width ys E)) same-end (by-end (endOf made) sized)
+    by-test Done = subst (λ (E : Ended). Same (ranOn made E) (lentBy width ys ended)) (sym same-end) (by-end ended (run-inside (rulesOf width) zs limit (boxOf width ys)))
     by-test (Refused q) = record { outcome = refl; cells = refl; used = used-cells }
 
     placed : (r : Run) → Narrows made r → NarrowsLists width limit ys zs (kept r) (r .outcome)

@@ -4,7 +4,7 @@ use mathlib.Core.Path.{_≡_, refl, sym, ap, _∙_}
 use mathlib.Core.List.{List, [], _∷_, map}
 use Prim.Native.Nat.{ℕ, zero, suc, _-_, _<_}
 use native.Mathlib.Omega.{arith}
-use lib.ListN.{length, getD, set, replicate, length-map, List·getD-append}
+use lib.ListN.{length, getD, set, take, replicate, length-map, List·getD-append}
 use lib.Seq.{take-at, set-append-left, ext-getD}
 use Rattle.ladder.specs.Solution as S
 use Rattle.ladder.specs.Solution.{Bounded}
@@ -47,10 +47,14 @@ module _ (width n : ℕ) (box : Box) (size : length box ≡ n) where
       set-append-left (cellsOf width box) (replicate (64 - n) noCell) i (patternsOf width I) (omega arith)
       ∙ ap (λ (t : List Interval). filled 64 noCell t n) (set-under (patternsOf width) box i I)
 
--- the box is found again
+  -- those in use
+  pub places-used : take n (places width n box) ≡ cellsOf width box
+  places-used = take-at (cellsOf width box) (replicate (64 - n) noCell) n long
+
+-- the box is found again, in the cells that it is written in
 module _ (width n : ℕ) (box : Box) (is : IsBox (fractionOf width) (exponentOf width) n box) where
-  pub box-found : boxIn width n (places width n box) ≡ box
-  box-found = ap (boxOf width) (take-at (cellsOf width box) (replicate (64 - n) noCell) n (long width n box (is .cells))) ∙ ext-getD (record { low = 0; high = 0 }) _ box size same
+  pub box-written : boxOf width (cellsOf width box) ≡ box
+  box-written = ext-getD (record { low = 0; high = 0 }) _ box size same
     where
       size : length (boxOf width (cellsOf width box)) ≡ length box
       size = length-map (cellsOf width box) (ordinalsOf width) ∙ length-map box (patternsOf width)
@@ -64,6 +68,10 @@ module _ (width n : ℕ) (box : Box) (is : IsBox (fractionOf width) (exponentOf 
           getD-under (ordinalsOf width) (cellsOf width box) i noCell _ h
           ∙ ap (ordinalsOf width) (getD-under (patternsOf width) box i (record { low = 0; high = 0 }) noCell k)
           ∙ written-span width (at box i) (bounded (is .proper i (omega arith)))
+
+  -- and in a sheet's places
+  pub box-found : boxIn width n (places width n box) ≡ box
+  box-found = ap (boxOf width) (places-used width n box (is .cells)) ∙ box-written
 
   pub places-show : Shows width n (places width n box)
   places-show =

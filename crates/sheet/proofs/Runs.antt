@@ -2,18 +2,16 @@
 -- Assumes nothing.
 use mathlib.Core.Path.{_≡_, refl, subst, _∙_}
 use mathlib.Core.Bool.{Bool, true, false, cond}
-use mathlib.Core.List.{List, [], _∷_}
+use mathlib.Core.List.{List}
 use Prim.Native.Nat.{ℕ, zero, suc, _+_, _-_, _<_, _≤_}
 use native.Mathlib.Omega.{arith}
 use native.Mathlib.Numerals.{add-one}
-use lib.ListN.{length, getD, take, drop, set, length-set, length-take, drop-of-length-le}
+use lib.ListN.{length, getD, take, drop, length-take, drop-of-length-le}
 use lib.Seq.{drop-cons, getD-take}
 use Rattle.sheet.specs.declared.kept.Record.{Record}
-use Rattle.ladder.specs.Solution.{Interval}
-use Rattle.ladder.specs.Narrowing.{Extent, empty, over}
-use Rattle.sheet.specs.Records.{named, Rules}
+use Rattle.sheet.specs.Records.{Rules}
 use Rattle.sheet.specs.Boxes.{Box}
-use Rattle.sheet.specs.Runs.{Step, unsolved, left, standing, stepBy, stepFrom, step, Pass, broken, whole, passBy, passFrom, pass, Ended, settled, stopped, noTriple, sameBox, runBy, runFrom, run}
+use Rattle.sheet.specs.Runs.{unsolved, left, step, Pass, broken, whole, passBy, passFrom, pass, Ended, settled, stopped, noTriple, sameBox, runBy, runFrom, run}
 use Rattle.sheet.specs.Sheets.{noRecord}
 use Rattle.sheet.proofs.Boxes.{same-is, same-not}
 
@@ -36,37 +34,6 @@ module _ (rules : Rules) (l : List Record) (n k : ℕ) (c : Box) where
   pass-end le =
       let h : length (take n l) ≤ k = rw length-take (omega arith) in
       rw (drop-of-length-le (take n l) h)
-
--- ---- the number of cells stays
-module _ (rules : Rules) where
-  abbrev StepSized : ℕ → Step → Type 0
-  StepSized n unsolved = Unit {0}
-  StepSized n (left box) = length box ≡ n
-
-  by-extent : (n : ℕ) (s : Extent) (next : Interval → Step) → ((I : Interval) → StepSized n (next I)) → StepSized n (stepBy s next)
-  by-extent n empty next h = tt
-  by-extent n (over I) next h = h I
-
-  step-from-sized : (box : Box) (r : Record) (is : List ℕ) (new : Box) (n : ℕ) → length new ≡ n → StepSized n (stepFrom rules box r is new)
-  unfolding stepFrom
-  step-from-sized box r [] new n e = e
-  step-from-sized box r (i ∷ is) new n e = by-extent n (standing rules box r i) (λ I. stepFrom rules box r is (set new i I)) (λ I. step-from-sized box r is (set new i I) n (length-set new i I ∙ e))
-
-  abbrev PassSized : ℕ → Pass → Type 0
-  PassSized n (broken k) = Unit {0}
-  PassSized n (whole box) = length box ≡ n
-
-  by-step : (n k : ℕ) (s : Step) (next : Box → Pass) → StepSized n s → ((box : Box) → length box ≡ n → PassSized n (next box)) → PassSized n (passBy s next k)
-  by-step n k unsolved next e h = tt
-  by-step n k (left box) next e h = h box e
-
-  pass-from-sized : (rs : List Record) (k : ℕ) (c : Box) (n : ℕ) → length c ≡ n → PassSized n (passFrom rules rs k c)
-  unfolding passFrom step
-  pass-from-sized [] k c n e = e
-  pass-from-sized (r ∷ rs) k c n e = by-step n k (step rules c r) (passFrom rules rs (k + 1)) (step-from-sized c r (named r) c n e) (λ d q. pass-from-sized rs (k + 1) d n q)
-
-  pub pass-sized : (records : List Record) (c d : Box) → pass rules records c ≡ whole d → length d ≡ length c
-  pass-sized records c d h = subst (PassSized (length c)) h (pass-from-sized records 0 c (length c) refl)
 
 -- ---- pass p of a run, from what the pass gave
 module _ (rules : Rules) (records : List Record) (p : ℕ) (c : Box) where
@@ -112,13 +79,13 @@ module _ (rules : Rules) (records : List Record) (limit : ℕ) (Q : ℕ → Box 
       go (broken k) h = breaks p k c q h
       go (whole d) h = end d h (sameBox c d) refl
 
-  from : (more p : ℕ) (c : Box) → limit - p ≡ more → Q p c → P (runFrom rules records more p c)
+  pub run-from : (more p : ℕ) (c : Box) → limit - p ≡ more → Q p c → P (runFrom rules records more p c)
   unfolding runFrom
-  from zero p c l q = after (stopped p) p c q (λ d h m. stops p c d q (omega arith) h m)
-  from (suc more) p c l q = after (runFrom rules records more (p + 1)) p c q (λ d h m. from more (p + 1) d (omega arith) (next p c d q (omega arith) h m))
+  run-from zero p c l q = after (stopped p) p c q (λ d h m. stops p c d q (omega arith) h m)
+  run-from (suc more) p c l q = after (runFrom rules records more (p + 1)) p c q (λ d h m. run-from more (p + 1) d (omega arith) (next p c d q (omega arith) h m))
 
   pub run-ends : (first : Box) → Q 1 first → P (run rules records limit first)
-  run-ends first q = from (limit - 1) 1 first refl q
+  run-ends first q = run-from (limit - 1) 1 first refl q
 
 -- the same where Q is of the box alone
 module _ (rules : Rules) (records : List Record) (Q : Box → Type 0) (P : Ended → Type 0)

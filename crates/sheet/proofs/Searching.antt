@@ -14,7 +14,7 @@ use Rattle.ladder.specs.Solution.{Interval, In}
 use Rattle.ladder.proofs.Extents.{some-in, any-in, IsExtent, extent-in}
 use Rattle.sheet.specs.declared.kept.Record.{Record}
 use Rattle.sheet.specs.Members.{Each, Member}
-use Rattle.sheet.specs.Records.{named, Values, Rules}
+use Rattle.sheet.specs.Records.{named, Values, Rules, Local}
 use Rattle.sheet.specs.Boxes.{Box, at}
 use Rattle.sheet.specs.Runs.{assigned, someValues, solvable, held, standing}
 use Rattle.sheet.specs.Consistency.{Solution, Has}
@@ -80,11 +80,7 @@ module _ (box : Box) (t : Values → Bool) where
   overlaid-at v (i ∷ is) u =
       (overlaid-keeps v is (assigned u i (v i)) i (assigned-cases (λ y. y ≡ v i) u i (v i) i (λ q. refl) (λ n. absurd (n refl))), overlaid-at v is (assigned u i (v i)))
 
--- ---- rules that read the values of a record's own cells alone
-abbrev pub Local : Rules → Type 0
-Local rules = (r : Record) (v w : Values) → Each (λ i. v i ≡ w i) (named r) → rules r v ≡ rules r w
-
--- a solution, with its values
+-- ---- a solution, with its values
 record Solved (rules : Rules) (box : Box) (r : Record) : Type 0 where
   values : Values
   solution : Solution rules box r values

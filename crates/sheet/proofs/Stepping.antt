@@ -1,5 +1,5 @@
--- What holds of a step, so that nothing above opens its definition: there is no solution; or each of the record's cells runs from
--- the least to the greatest value standing there, and the others are as they were. It is the only such step. Assumes nothing.
+-- What holds of a step, so that but for Shrinking nothing above opens its definition: there is no solution; or each of the record's cells runs
+-- from the least to the greatest value standing there, and the others are as they were. It is the only such step. Assumes nothing.
 use mathlib.Core.Path.{_≡_, refl, sym, ap, subst, _∙_}
 use mathlib.Core.Logic.{_≢_, inl, inr}
 use mathlib.Core.List.{List, [], _∷_}
@@ -11,14 +11,14 @@ use Rattle.ladder.specs.Narrowing.{Extent, empty, over, Spans}
 use Rattle.ladder.proofs.Extents.{IsExtent}
 use Rattle.sheet.specs.declared.kept.Record.{Record}
 use Rattle.sheet.specs.Members.{Each, Member}
-use Rattle.sheet.specs.Records.{named, Values, Rules}
+use Rattle.sheet.specs.Records.{named, Values, Rules, Local}
 use Rattle.sheet.specs.Boxes.{Box, at}
 use Rattle.sheet.specs.Runs.{Step, unsolved, left, standing, stepBy, stepFrom, step}
 use Rattle.sheet.specs.Consistency.{Solution, Has}
-use Rattle.sheet.proofs.Members.{each-member, each-of, among}
+use Rattle.sheet.proofs.Members.{each-member, each-itself, among}
 use Rattle.sheet.proofs.Boxes.{set-cases, same-interval}
 use Rattle.sheet.proofs.Records.{x-named}
-use Rattle.sheet.proofs.Searching.{Local, standing-is}
+use Rattle.sheet.proofs.Searching.{standing-is}
 
 -- ---- two intervals from the least to the greatest number with a property are the same
 spans-same : (P : ℕ → Type 0) (I J : Interval) → Spans P I → Spans P J → I ≡ J
@@ -78,7 +78,7 @@ module _ (rules : Rules) (local : Local rules) (box : Box) (r : Record) (names :
 
   pub step-is : IsStep rules box r (step rules box r)
   unfolding step
-  step-is = whole-step (stepFrom rules box r (named r) box) (part (named r) box refl (each-of (λ i. Member i (named r)) (named r) (λ i m. m)))
+  step-is = whole-step (stepFrom rules box r (named r) box) (part (named r) box refl (each-itself (named r)))
 
   -- ---- and there is one
   some-solution : (new : Box) → Left rules box r new → Has rules box r (r .x) (at new (r .x) .low)

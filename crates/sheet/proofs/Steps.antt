@@ -24,8 +24,7 @@ use Rattle.arith.specs.Intervals.{mirroredEnds, cutOf}
 use Rattle.arith.specs.Narrows.{narrowAnswer, narrowOf}
 use Rattle.arith.proofs.Valid.{written-span, written-valid, shared, valid-narrow}
 use Rattle.sheet.specs.declared.kept.Record.{Record}
-use Rattle.sheet.specs.Members.{Each}
-use Rattle.sheet.specs.Records.{sum, diff, neg, kindOf, named, Distinct, Names}
+use Rattle.sheet.specs.Records.{sum, diff, neg, kindOf, Distinct, Names}
 use Rattle.sheet.specs.Cells.{fractionOf, exponentOf, rulesOf, patternsOf, boxOf}
 use Rattle.sheet.specs.Sheets.{noCell, places}
 use Rattle.sheet.specs.Boxes.{Box, at, Proper, IsBox}
@@ -33,9 +32,7 @@ use Rattle.sheet.specs.Runs.{unsolved, left, step, sameBox}
 use Rattle.sheet.specs.RecordSteps.{turnSecond, pairBy, negAnswer, recordAnswer}
 use Rattle.sheet.specs.Loops.{boxIn, Shows, Compares}
 use Rattle.sheet.proofs.Boxes.{equal-same, unequal-same}
-use Rattle.sheet.proofs.Fitting.{fits-local}
-use Rattle.sheet.proofs.Stepping.{IsStep, step-is}
-use Rattle.sheet.proofs.Demand.{stays-box}
+use Rattle.sheet.proofs.Shrinking.{shrunk-box, step-shrunk}
 use Rattle.sheet.proofs.Mirroring.{mirror-proper, mirror-written, cut-written}
 use Rattle.sheet.proofs.KindSteps.{Three, put, sum-step, diff-step, Two, neg-solved, neg-unsolved}
 use Rattle.sheet.proofs.Places.{bounded, place-at, place-set, box-found, places-show}
@@ -227,17 +224,8 @@ module _ (width n : ℕ) (known : isKnown width ≡ true) (r : Record) (names : 
       let m = made (Ends x a b) h in
       let new = m .0 in
       let c : put cells r x a b ≡ places width n new = ap (λ (l : List Interval). put l r x a b) (shows .held) ∙ m .2 in
-      let i : IsBox (fractionOf width) (exponentOf width) n new = stays new (m .1) in
+      let i = shrunk-box (fractionOf width) (exponentOf width) n box new (step-shrunk (rulesOf width) box new r (m .1)) (shows .box) in
       (m .1 ∙ ap left (sym (box-found width n new i) ∙ ap (boxIn width n) (sym c)), subst (Shows width n) (sym c) (places-show width n new i))
-    where
-      here : Each (λ i. i < length box) (named r)
-      here = subst (λ (m : ℕ). Each (λ i. i < m) (named r)) (sym (shows .box .cells)) (names .cells)
-
-      stays : (new : Box) → step (rulesOf width) box r ≡ left new → IsBox (fractionOf width) (exponentOf width) n new
-      stays new q =
-          stays-box (rulesOf width) box r new
-          (subst (IsStep (rulesOf width) box r) q (step-is (rulesOf width) (fits-local (fractionOf width) (exponentOf width)) box r here))
-          (fractionOf width) (exponentOf width) n (shows .box)
 
 -- ---- a comparison
 pub compared :

@@ -4,15 +4,15 @@ use mathlib.Core.List.{List, []}
 use Prim.Native.Nat.{ℕ, _-_}
 use lib.ListN.{length}
 use Rattle.sheet.specs.declared.kept.Record.{Record}
-use Rattle.sheet.specs.Records.{Rules}
+use Rattle.sheet.specs.Records.{Rules, Local}
 use Rattle.sheet.specs.Boxes.{Box, at}
 use Rattle.sheet.specs.Runs.{Pass, broken, whole, passFrom, pass, settled, run, lastBox}
 use Rattle.sheet.specs.Consistency.{AllNames}
 use Rattle.sheet.specs.Outcomes.{Unnamed}
 use Rattle.sheet.proofs.Boxes.{equal-same}
-use Rattle.sheet.proofs.Searching.{Local}
 use Rattle.sheet.proofs.Demand.{pass-all}
-use Rattle.sheet.proofs.Runs.{run-settled, pass-sized, run-all}
+use Rattle.sheet.proofs.Shrinking.{pass-shrunk}
+use Rattle.sheet.proofs.Runs.{run-settled, run-all}
 
 -- no records: settled after pass 1
 pub run-no-records : (rules : Rules) (limit : ℕ) (first : Box) → run rules [] limit first ≡ settled 1 first
@@ -36,7 +36,7 @@ module _ (rules : Rules) (local : Local rules) (i : ℕ) where
       (λ k b q. refl)
       (λ r rs k b q off. tt)
       (λ r rs k b d q p. q .1)
-      (λ r rs k b d t q p s. goes b d t (p .others i (q .0)) s)
+      (λ r rs k b d t q p s. goes b d t (p .is .others i (q .0)) s)
       records 0 c names refl n)
 
   -- a cell that no record names keeps its ends
@@ -45,7 +45,7 @@ module _ (rules : Rules) (local : Local rules) (i : ℕ) where
       run-all rules records (λ c. (length c ≡ length first) × (at c i ≡ at first i)) (λ t. at (lastBox first t) i ≡ at first i)
       (λ c d q h.
       let m : AllNames (length c) records = rw (q .0) names in
-      (pass-sized rules records c d h ∙ q .0, pass-other records c d m n h ∙ q .1))
+      (pass-shrunk rules records c d h .inside .cells ∙ q .0, pass-other records c d m n h ∙ q .1))
       (λ p c q h. q .1)
       (λ p c q. q .1)
       (λ p k c q h. refl)

@@ -13,3 +13,5 @@ pub mod Loops
 pub mod Narrowings
 pub mod Loading
 pub mod Lists
+pub mod Calls
+pub mod Planning

@@ -46,6 +46,10 @@ fitsBy f e neg x y b = eqb y (mirrored f e x)
 abbrev pub Rules : Type 0
 Rules = Record → Values → Bool
 
+-- rules that read the values of a record's own cells alone
+abbrev pub Local : Rules → Type 0
+Local rules = (r : Record) (v w : Values) → Each (λ i. v i ≡ w i) (named r) → rules r v ≡ rules r w
+
 -- 02's rules, for the format with f fraction bits and e exponent bits
 unfoldable pub fits : ℕ → ℕ → Rules
 fits f e r v = fitsBy f e (kindOf (r .kind)) (v (r .x)) (v (r .a)) (v (r .b))

@@ -43,7 +43,7 @@ returns-2 c =
     let s = c .before .before .before .before .before .before .args .sheet in
     let l = long (c .before .before .before .before .before .before) in
     let t = sym (c .before .before .before .before .before .test-sheet .ensures) ∙ c .before .before .before .enum-told .given .1 in
-    run-narrows s (l .0) (l .1) t (c .finish .result) (c .finish .ensures ∙ ap (λ (u : Sheet). ranOn s (endOf u)) (c .before .before .tidy .ensures) ∙ ap (ranOn s) (tidied-end s (l .0) (l .1) t))
+    run-narrows s (l .0) t (c .finish .result) (c .finish .ensures ∙ ap (λ (u : Sheet). ranOn s (endOf u)) (c .before .before .tidy .ensures) ∙ ap (ranOn s) (tidied-end s (l .0) (l .1) t))
 
 pub narrow-sheet-spec : {M : Type 1} → statement M
 narrow-sheet-spec =
