@@ -11,6 +11,8 @@
 mod cases;
 #[path = "../tests/common/ends.rs"]
 mod ends;
+#[path = "../tests/common/exports.rs"]
+mod exports;
 #[path = "../tests/common/floats.rs"]
 mod floats;
 #[path = "../tests/common/narrowing.rs"]

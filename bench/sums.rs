@@ -1,6 +1,7 @@
 //! Forward sums: the library's beside a plain software addition with guard, round and sticky bits.
 
 use crate::cases;
+use crate::exports;
 use crate::floats::Width;
 use crate::{best, report};
 use crate::words::Words;
@@ -11,15 +12,6 @@ const PAIRS: usize = 4_000;
 const ROUNDS: usize = 1_000;
 
 type Add = fn(u64, u64, u64, &mut [u64; 2]) -> u64;
-
-unsafe extern "C" {
-    fn bench_add(width: u64, x: u64, a: u64, out: *mut [u64; 2]) -> u64;
-}
-
-fn library_add(width: u64, x: u64, a: u64, out: &mut [u64; 2]) -> u64 {
-    // The pointer is a reference's.
-    unsafe { bench_add(width, x, a, out) }
-}
 
 /// 0 with the pattern and the mark, or the refusal number.
 fn software_add(width: u64, x: u64, a: u64, out: &mut [u64; 2]) -> u64 {
@@ -92,12 +84,12 @@ pub fn sums<W: Width>() {
     let pairs: Vec<[u64; 2]> = (0..PAIRS).map(&mut pair).collect();
     for pair in &pairs {
         assert_eq!(
-            answer(library_add, W::BITS, *pair),
+            answer(exports::add, W::BITS, *pair),
             answer(software_add, W::BITS, *pair),
             "the software addition answers otherwise"
         );
     }
     let [library, baseline] =
-        best(ROUNDS, [&mut || round(library_add, W::BITS, &pairs), &mut || round(software_add, W::BITS, &pairs)]);
+        best(ROUNDS, [&mut || round(exports::add, W::BITS, &pairs), &mut || round(software_add, W::BITS, &pairs)]);
     report(&format!("sum, width {}", W::BITS), &[("library", library), ("software addition", baseline)]);
 }

@@ -13,13 +13,13 @@ pub fn finite<W: Width>() -> Range {
 }
 
 /// The place of 2^k times the smallest float.
-fn power<W: Width>(k: i64) -> Place {
+pub fn power<W: Width>(k: i64) -> Place {
     let f = W::FRACTION as i64;
     if k < f { 1 << k.max(0) } else { ((k - f + 1) << f).min(W::LARGEST) }
 }
 
 /// The largest k of `power`.
-fn top<W: Width>() -> i64 {
+pub fn top<W: Width>() -> i64 {
     (W::LARGEST >> W::FRACTION) + W::FRACTION as i64 - 1
 }
 

@@ -1,26 +1,12 @@
 //! Random garbage for every parameter of the C entries: each answer is the number of the first condition that holds, with the
 //! narrowing in the first 48 bytes at 0 and the buffer as it was otherwise.
 
+use crate::arguments;
 use crate::ends;
 use crate::floats::{Binary32, Binary64, Width};
 use crate::library;
 use crate::pieces;
 use crate::words::Words;
-
-const WIDTHS: [u64; 11] = [32, 64, 32, 64, 32, 64, 0, 16, 33, 128, u64::MAX];
-
-fn pattern(words: &mut Words, width: u64) -> u64 {
-    let sign = 1u64 << (if width == 32 { 31 } else { 63 });
-    let infinity = if width == 32 { 0x7F80_0000 } else { 0x7FF0_0000_0000_0000 };
-    let some = match words.below(12) {
-        0 => words.next(),
-        1 => infinity + words.below(2),
-        2 => infinity - 1,
-        3 => words.below(3),
-        _ => words.next() % infinity,
-    };
-    if words.coin() { some ^ sign } else { some }
-}
 
 /// The number that is due at a width: 2, 3, 11, 13 or 0.
 fn number<W: Width>(ends: [u64; 6], room: usize) -> u64 {
@@ -61,8 +47,8 @@ fn fault(width: u64, ends: [u64; 6], before: &[u8], after: &[u8], answer: u64) -
 pub fn run(calls: usize) -> usize {
     let mut words = Words(0xD1B5_4A32_D192_ED03);
     for _ in 0..calls {
-        let width = if words.below(50) == 0 { words.next() } else { words.pick(&WIDTHS) };
-        let mut ends: [u64; 6] = std::array::from_fn(|_| pattern(&mut words, width));
+        let width = arguments::width(&mut words);
+        let mut ends: [u64; 6] = std::array::from_fn(|_| arguments::pattern(&mut words, width));
         if words.below(3) != 0 {
             order(width, &mut ends);
         }

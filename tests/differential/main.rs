@@ -2,6 +2,8 @@
 //! random garbage for every parameter against a rule that decides by pieces. Prints how many cases of each kind were compared;
 //! any difference ends it with status 1.
 
+#[path = "../common/arguments.rs"]
+mod arguments;
 #[path = "../common/cases.rs"]
 mod cases;
 #[path = "../common/ends.rs"]

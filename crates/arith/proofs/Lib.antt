@@ -14,8 +14,6 @@ pub mod Clamping
 pub mod Bounds
 pub mod Narrowings
 pub mod Callers
-pub mod Floating
-pub mod Placing
 pub mod Valid
 pub mod Replies
 pub mod Widths

@@ -1,7 +1,6 @@
 -- 01's reply as plain numbers, and what each case of an answer's enum tells of it: number, place and values. Assumes nothing.
 use mathlib.Core.List.{List, [], _∷_, _++_}
 use Prim.Native.Nat.{ℕ}
-use lib.Ieee.{binary64, toBits}
 use Rattle.arith.specs.declared.refusal.Refusal.{Refusal}
 use Rattle.arith.specs.declared.interval.Interval.{Interval}
 use Rattle.arith.specs.declared.sum.Sum.{Sum}
@@ -12,10 +11,6 @@ use Rattle.arith.specs.declared.interval.Image.{Image}
 use Rattle.arith.specs.declared.interval.Image.the-variants as Image
 use Rattle.arith.specs.declared.narrow.Narrowed.{Narrowed}
 use Rattle.arith.specs.declared.narrow.Narrowed.the-variants as Narrowed
-use Rattle.arith.specs.declared.floats.Floats.{Floats}
-use Rattle.arith.specs.declared.floats.Floats.the-variants.{Point, Span, None}
-use Rattle.arith.specs.declared.floats.FloatAnswer.{FloatAnswer}
-use Rattle.arith.specs.declared.floats.FloatAnswer.the-variants as FloatAnswer
 
 -- ---- a reply
 -- 01's number, 0 where nothing is refused; the place; the values, none with a refusal
@@ -57,14 +52,3 @@ imageTold (Image.Refused r) = refuses r
 abbrev pub narrowedTold : Narrowed → Reply ℕ
 narrowedTold (Narrowed.Ends x a b) = gives (twoEnds x ++ twoEnds a ++ twoEnds b)
 narrowedTold (Narrowed.Refused r) = refuses r
-
--- an interval as floats: the patterns of one float, of two, or of none
-abbrev pub floatPatterns : Floats → List ℕ
-floatPatterns (Point v) = toBits binary64 v ∷ []
-floatPatterns (Span v w) = toBits binary64 v ∷ toBits binary64 w ∷ []
-floatPatterns None = []
-
--- the narrowing as floats: those of x, of a and of b
-abbrev pub floatsTold : FloatAnswer → Reply (List ℕ)
-floatsTold (FloatAnswer.Values x a b) = gives (floatPatterns x ∷ floatPatterns a ∷ floatPatterns b ∷ [])
-floatsTold (FloatAnswer.Refused r) = refuses r

@@ -6,7 +6,5 @@ pub mod Intervals
 pub mod Thresholds
 pub mod Searches
 pub mod Narrows
-pub mod Floating
 pub mod Answers
 pub mod Replies
-pub mod Exports

@@ -2,7 +2,6 @@
 use mathlib.Core.Bool.{Bool, true, false, cond}
 use mathlib.Core.List.{List, [], _∷_, _++_}
 use Prim.Native.Nat.{ℕ}
-use lib.Dec.{eqb}
 use Rattle.ladder.specs.Narrowing.{Narrowing, none, ends}
 use Rattle.arith.specs.declared.refusal.Refusal.{Refusal}
 use Rattle.arith.specs.declared.range.Range.{Range}
@@ -130,16 +129,3 @@ sixPatterns width (ends X A B) = let F = formatOf width in twoEnds (written F X)
 -- the least and the greatest x, a and b
 abbrev pub narrowValues : ℕ → Interval → Interval → Interval → List ℕ
 narrowValues width x a b = sixPatterns width (inTriples width x a b)
-
--- as floats, by their patterns: one where both ends agree, two otherwise
-abbrev pub oneOrTwo : Interval → List ℕ
-oneOrTwo I = cond (eqb (I .low) (I .high)) (I .low ∷ []) (twoEnds I)
-
--- for x, a and b; none for all three in place of 11
-abbrev pub threeFloats : Narrowing → List (List ℕ)
-threeFloats none = [] ∷ [] ∷ [] ∷ []
-threeFloats (ends X A B) = let F = formatOf 64 in oneOrTwo (written F X) ∷ oneOrTwo (written F A) ∷ oneOrTwo (written F B) ∷ []
-
--- the same values as floats, at width 64
-abbrev pub floatValues : Interval → Interval → Interval → List (List ℕ)
-floatValues x a b = threeFloats (inTriples 64 x a b)

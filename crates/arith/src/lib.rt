@@ -1,10 +1,8 @@
 // Arithmetic on binary floating-point patterns at both widths: the forward sum, intervals and the narrowing of one sum. All in integers, so that no answer depends on a floating-point environment. Rests on the crate `ladder`.
 mod clamp;
 mod corner;
-pub mod entry;
 mod exact;
 mod extent;
-pub mod floats;
 pub mod format;
 pub mod interval;
 pub mod narrow;

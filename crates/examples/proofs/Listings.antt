@@ -10,9 +10,8 @@ use Rattle.sheet.specs.declared.kept.Record.{Record}
 use Rattle.sheet.specs.declared.kept.Kept.{Kept}
 use Rattle.sheet.specs.declared.kept.Answer.the-variants.{Done}
 use Rattle.sheet.specs.Faults.{headFault, cellFault, tripleFault, recordFault}
-use Rattle.sheet.specs.Sheets.{firstFault, testLists}
-use Rattle.sheet.specs.Lists.{testOfLists}
-use Rattle.sheet.specs.Narrowings.{narrowSheetOf}
+use Rattle.sheet.specs.Sheets.{firstFault, testLists, testOfLists}
+use Rattle.propagation.specs.Narrowings.{narrowSheetOf}
 use Rattle.reader.specs.Numbers.{digitsFor}
 use Rattle.reader.specs.Digits.{digitByte, digitsOf, digitCount, decimalOf, hexOf}
 use Rattle.reader.specs.Texts.{headText, cellText, recordText, textLines, textFor, built}

@@ -12,18 +12,18 @@ use Rattle.ladder.specs.Narrowing.{anyFrom, extentFrom, ends}
 use Rattle.ladder.proofs.Hull.{hull-narrowing, narrowing-idempotent}
 use Rattle.arith.specs.Intervals.{endsFinite, isOrdered, canonicalIn, canonicalOf}
 use Rattle.sheet.specs.declared.kept.Record.{Record}
-use Rattle.sheet.specs.declared.passes.Outcome.the-variants.{NoTriple, Stopped}
-use Rattle.sheet.specs.declared.narrowing.Run.{Run}
+use Rattle.propagation.specs.declared.passes.Outcome.the-variants.{NoTriple, Stopped}
+use Rattle.propagation.specs.declared.narrowing.Run.{Run}
 use Rattle.sheet.specs.Faults.{headFault, cellFault, tripleFault, recordFault}
 use Rattle.sheet.specs.Sheets.{tidied, firstFault, testLists}
 use Rattle.sheet.specs.Records.{fits}
 use Rattle.sheet.specs.Boxes.{Box}
-use Rattle.sheet.specs.Runs.{someValues, solvable, standing, Step, left, stepFrom, step, whole, passBy, passFrom, pass, settled, sameBox, runFrom, run}
-use Rattle.sheet.specs.Outcomes.{start, next}
-use Rattle.sheet.specs.Narrowings.{ranOn, narrowSheetOf}
-use Rattle.sheet.proofs.Boxes.{same-not}
-use Rattle.sheet.proofs.Outcomes.{settled-exactly}
-use Rattle.sheet.proofs.KindSteps.{Three, sum-step}
+use Rattle.propagation.specs.Runs.{someValues, solvable, standing, Step, left, stepFrom, step, whole, passBy, passFrom, pass, settled, sameBox, runFrom, run}
+use Rattle.propagation.specs.Outcomes.{start, next}
+use Rattle.propagation.specs.Narrowings.{ranOn, narrowSheetOf}
+use Rattle.propagation.proofs.Boxes.{same-not}
+use Rattle.propagation.proofs.Outcomes.{settled-exactly}
+use Rattle.propagation.proofs.KindSteps.{Three, sum-step}
 use Rattle.examples.specs.Starred.{Sheets, interval, point, over, sheet000, twoSums, twoSumsCells}
 use Rattle.examples.proofs.Narrowings.{dX, dA, dB, dX', dA', one, document}
 

@@ -14,9 +14,9 @@ use Rattle.arith.specs.Sums.{addOf}
 use Rattle.arith.specs.Narrows.{narrowOf}
 use Rattle.sheet.specs.declared.kept.Record.{Record}
 use Rattle.sheet.specs.declared.kept.Sheet.{Sheet}
-use Rattle.sheet.specs.declared.passes.Outcome.the-variants.{Settled, NoTriple, Stopped}
+use Rattle.propagation.specs.declared.passes.Outcome.the-variants.{Settled, NoTriple, Stopped}
 use Rattle.sheet.specs.Sheets.{noCell, noRecord, filled}
-use Rattle.sheet.specs.Narrowings.{narrowSheetOf}
+use Rattle.propagation.specs.Narrowings.{narrowSheetOf}
 use Rattle.listing.specs.Listings.{runOf, listingOf}
 use Rattle.examples.specs.Quoted.{bytes}
 

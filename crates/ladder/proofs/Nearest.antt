@@ -1,17 +1,17 @@
--- The sum is the finite float nearest to the exact sum, and at equal distance the one with even m. Assumes nothing.
-use mathlib.Core.Path.{_≡_, refl, ap, _∙_}
+-- The sum is the finite float nearest to the exact sum, and at equal distance the one with even m; and no other float is. Assumes nothing.
+use mathlib.Core.Path.{_≡_, refl, sym, ap, _∙_}
 use mathlib.Core.Logic.{_≢_, inl, inr}
-use Prim.Native.Nat.{ℕ, _+_, _-_, _*_, _≤_}
+use Prim.Native.Nat.{ℕ, _+_, _-_, _*_, _<_, _≤_}
 use native.Mathlib.Omega.{arith}
 use Rattle.ladder.specs.Magnitude.{magnitude}
 use Rattle.ladder.specs.Rounding.{round}
-use Rattle.ladder.specs.Ordinal.{sign, Finite, mirrored}
+use Rattle.ladder.specs.Ordinal.{sign, above, below, Finite, mirrored}
 use Rattle.ladder.specs.Sum.{rounded, gains, losses, sum}
 use Rattle.ladder.specs.Nearest.{distance, error, Nearest}
-use Rattle.ladder.proofs.Cases.{le-or-lt}
+use Rattle.ladder.proofs.Cases.{le-or-lt, trichotomy}
 use Rattle.ladder.proofs.Magnitude.{magnitude-lt, magnitude-zero}
 use Rattle.ladder.proofs.Rounding.{round-nearest, round-even}
-use Rattle.ladder.proofs.Ordinals.{sign-even, above-none, below-none, mirror-finite, finite-twice}
+use Rattle.ladder.proofs.Ordinals.{order, sign-even, above-none, below-none, mirror-finite, finite-twice}
 use Rattle.ladder.proofs.Sum.{rounded-up, rounded-mirror, mirror-rounded, above-mirror, below-mirror}
 
 module _ (f e : ℕ) (some : 1 ≤ f) where
@@ -30,6 +30,7 @@ module _ (f e : ℕ) (some : 1 ≤ f) where
   -- p - n units are at least zero
   up : (p n : ℕ) → n ≤ p → Finite f e (rounded f e p n) → Nearest f e p n (rounded f e p n)
   up p n h fin = record {
+    finite = fin;
     nearest = λ y Y. elim (le-or-lt s y) [
       | inl l ↦ omega (arith, here, error-up p n y h l, round-nearest f some (p - n) (y - s))
       | inr l ↦ omega (arith, here, error-down p n y h (omega arith), round-nearest f some (p - n) 0, magnitude-zero f 0 refl)
@@ -56,10 +57,12 @@ module _ (f e : ℕ) (some : 1 ≤ f) where
   error-mirror p n y h = omega (arith, above-mirror f e some y, below-mirror f e some y h)
 
   -- what is nearest to n - p units, mirrored, is nearest to p - n units
-  turned : (p n r : ℕ) → Finite f e r → Nearest f e n p r → Nearest f e p n (mirrored f e r)
-  turned p n r R h =
+  turned : (p n r : ℕ) → Nearest f e n p r → Nearest f e p n (mirrored f e r)
+  turned p n r h =
+      let R = h .finite in
       let er = error-mirror n p r (finite-twice f e r R) in
       record {
+        finite = mirror-finite f e r R;
         nearest = λ y Y. omega (arith, er, error-mirror p n y (finite-twice f e y Y), h .nearest (mirrored f e y) (mirror-finite f e y Y));
         even = λ y Y ne same.
             let d = finite-twice f e y Y in
@@ -72,9 +75,33 @@ module _ (f e : ℕ) (some : 1 ≤ f) where
     | inl h ↦ up p n h fin
     | inr h ↦
         let R = mirror-rounded f e some p n fin in
-        rw (rounded-mirror f e some n p) (turned p n (rounded f e n p) R (up n p (omega arith) R))
+        rw (rounded-mirror f e some n p) (turned p n (rounded f e n p) (up n p (omega arith) R))
   ]
 
   pub sum-nearest : (x a : ℕ) → Finite f e (sum f e x a) → Nearest f e (gains f e x a) (losses f e x a) (sum f e x a)
   unfolding sum
   sum-nearest x a = rounded-nearest (gains f e x a) (losses f e x a)
+
+  -- ---- at most one float is nearest
+  -- of two that are equally far, with one between them, that one is nearer
+  between : (a b c d x y : ℕ) → a + d < c + b → c + y < x + d → distance a b ≡ distance x y → distance c d < distance a b
+  between a b c d x y l m s = omega arith
+
+  -- two different ones would be even, so with a float between them, which is nearer
+  not-less : (p n r s : ℕ) → Nearest f e p n r → Nearest f e p n s → r < s → ⊥
+  unfolding error
+  not-less p n r s h k l =
+      let same : error f e p n r ≡ error f e p n s = omega (arith, h .nearest s (k .finite), k .nearest r (h .finite)) in
+      let even-r = h .even s (k .finite) (λ z. omega arith) (sym same) in
+      let even-s = k .even r (h .finite) (λ z. omega arith) same in
+      let m : Finite f e (r + 1) = record { low = omega (arith, h .finite .low); high = omega (arith, k .finite .high) } in
+      let first = order f e r (r + 1) .0 (omega arith) in
+      let second = order f e (r + 1) s .0 (omega (arith, even-r, even-s)) in
+      let near = between (above f e r + n) (p + below f e r) (above f e (r + 1) + n) (p + below f e (r + 1)) (above f e s + n) (p + below f e s) (omega arith) (omega arith) same in
+      omega (arith, near, h .nearest (r + 1) m)
+
+  pub nearest-unique : (p n r s : ℕ) → Nearest f e p n r → Nearest f e p n s → r ≡ s
+  nearest-unique p n r s h k = elim (trichotomy r s) [
+    | inl l ↦ absurd (not-less p n r s h k l)
+    | inr o ↦ elim o [ inl z ↦ z | inr g ↦ absurd (not-less p n s r k h g) ]
+  ]

@@ -13,12 +13,12 @@ use Rattle.arith.proofs.Replies.{on-test, told-chain}
 use Rattle.sheet.specs.declared.kept.Sheet.{Sheet}
 use Rattle.sheet.specs.declared.kept.Answer.{Answer}
 use Rattle.sheet.specs.declared.kept.Answer.the-variants as Answer
-use Rattle.sheet.specs.declared.narrowing.Run.{Run}
-use Rattle.sheet.specs.declared.passes.Outcome.{Outcome}
-use Rattle.sheet.specs.declared.passes.Outcome.the-variants as Outcome
+use Rattle.propagation.specs.declared.narrowing.Run.{Run}
+use Rattle.propagation.specs.declared.passes.Outcome.{Outcome}
+use Rattle.propagation.specs.declared.passes.Outcome.the-variants as Outcome
 use Rattle.sheet.specs.Sheets.{testOf}
-use Rattle.sheet.specs.Runs.{Ended, settled, stopped, noTriple}
-use Rattle.sheet.specs.Narrowings.{endOf, ranOn, runAfter, narrowSheetOf}
+use Rattle.propagation.specs.Runs.{Ended, settled, stopped, noTriple}
+use Rattle.propagation.specs.Narrowings.{endOf, ranOn, runAfter, narrowSheetOf}
 use Rattle.sheet.specs.Replies.{sheetTests}
 use Rattle.sheet.proofs.Replies.{sheet-after}
 use Rattle.listing.specs.Listings.{listingOf}

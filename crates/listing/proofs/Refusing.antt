@@ -7,10 +7,10 @@ use Rattle.arith.specs.declared.refusal.Refusal.{Refusal}
 use Rattle.sheet.specs.declared.kept.Sheet.{Sheet}
 use Rattle.sheet.specs.declared.kept.Answer.{Answer}
 use Rattle.sheet.specs.declared.kept.Answer.the-variants as Answer
-use Rattle.sheet.specs.declared.passes.Outcome.the-variants.{Refused}
-use Rattle.sheet.specs.Runs.{Ended, settled, stopped, noTriple}
+use Rattle.propagation.specs.declared.passes.Outcome.the-variants.{Refused}
+use Rattle.propagation.specs.Runs.{Ended, settled, stopped, noTriple}
 use Rattle.sheet.specs.Sheets.{testOf}
-use Rattle.sheet.specs.Narrowings.{endOf, ranOn, narrowSheetOf}
+use Rattle.propagation.specs.Narrowings.{endOf, ranOn, narrowSheetOf}
 use Rattle.reader.specs.Readings.{readOf}
 use Rattle.reader.proofs.Tested.{read-tested}
 use Rattle.listing.specs.Listings.{runFor, runOf}

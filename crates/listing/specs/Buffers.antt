@@ -9,9 +9,9 @@ use Rattle.arith.specs.Refusals.{refusal}
 use Rattle.arith.specs.Answers.{Reply, gives, refuses}
 use Rattle.arith.specs.Replies.{Test, replyAfter}
 use Rattle.arith.specs.declared.refusal.Refusal.{Refusal}
-use Rattle.sheet.specs.declared.narrowing.Run.{Run}
-use Rattle.sheet.specs.declared.passes.Outcome.{Outcome}
-use Rattle.sheet.specs.declared.passes.Outcome.the-variants as Outcome
+use Rattle.propagation.specs.declared.narrowing.Run.{Run}
+use Rattle.propagation.specs.declared.passes.Outcome.{Outcome}
+use Rattle.propagation.specs.declared.passes.Outcome.the-variants as Outcome
 use Rattle.listing.specs.Listings.{listingOf}
 use Rattle.listing.specs.declared.writer.Written.{Written}
 use Rattle.listing.specs.declared.writer.Written.the-variants.{Length, Refused}

@@ -5,11 +5,11 @@ use Rattle.arith.specs.declared.interval.Interval.{Interval}
 use Rattle.sheet.specs.declared.kept.Sheet.{Sheet}
 use Rattle.sheet.specs.declared.kept.Answer.{Answer}
 use Rattle.sheet.specs.declared.kept.Answer.the-variants as Answer
-use Rattle.sheet.specs.declared.narrowing.Run.{Run}
-use Rattle.sheet.specs.declared.passes.Outcome.{Outcome}
-use Rattle.sheet.specs.declared.passes.Outcome.the-variants.{Settled, NoTriple, Stopped, Refused}
+use Rattle.propagation.specs.declared.narrowing.Run.{Run}
+use Rattle.propagation.specs.declared.passes.Outcome.{Outcome}
+use Rattle.propagation.specs.declared.passes.Outcome.the-variants.{Settled, NoTriple, Stopped, Refused}
 use Rattle.sheet.specs.Sheets.{usedCells}
-use Rattle.sheet.specs.Narrowings.{narrowSheetOf}
+use Rattle.propagation.specs.Narrowings.{narrowSheetOf}
 use Rattle.reader.specs.Lines.{tab, feed, cellWord}
 use Rattle.reader.specs.Digits.{decimalOf, hexOf}
 use Rattle.reader.specs.Readings.{readOf}

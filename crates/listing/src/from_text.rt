@@ -5,11 +5,11 @@ ghost use Rattle.listing.specs.Listings.{runOf, listingOf};
 ghost use Rattle.listing.specs.Buffers.{lengthAfter, sizeIn, storedIn, Writes};
 use crate::writer::Written;
 use crate::writer::write_run;
+use propagation::narrowing::Run;
+use propagation::narrowing::narrow_sheet;
+use propagation::passes::Outcome;
 use reader::read::read;
 use sheet::kept::Answer;
-use sheet::narrowing::Run;
-use sheet::narrowing::narrow_sheet;
-use sheet::passes::Outcome;
 
 // The run of a text's sheet, or the text's refusal.
 fn run_text(text: &[u8]) -> Run

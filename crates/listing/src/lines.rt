@@ -8,7 +8,7 @@ use crate::digits::put_pattern;
 use crate::store::copy;
 use crate::store::put;
 use arith::interval::Interval;
-use sheet::passes::Outcome;
+use propagation::passes::Outcome;
 
 // A word, a tab, a number and the byte after it.
 fn put_word(buf: &mut [u8], word: &[u8], n: u64, last: u8) -> usize

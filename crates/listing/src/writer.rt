@@ -3,17 +3,17 @@ ghost use mathlib.Core.Path.{_≡_};
 ghost use Prim.Native.Nat.{_≤_};
 ghost use lib.ListN.{length, take};
 ghost use Rattle.sheet.specs.Replies.{sheetTests};
-ghost use Rattle.sheet.specs.Narrowings.{narrowSheetOf};
+ghost use Rattle.propagation.specs.Narrowings.{narrowSheetOf};
 ghost use Rattle.listing.specs.Listings.{listingOf};
 ghost use Rattle.listing.specs.Buffers.{lengthAfter, sizeIn, storedIn, writtenBy, bufferBy, Writes};
 use crate::lines::put_lines;
 use crate::store::copy;
 use arith::refusal::Refusal;
 use arith::refusal::refuse;
+use propagation::narrowing::Run;
+use propagation::narrowing::narrow_sheet;
+use propagation::passes::Outcome;
 use sheet::kept::Sheet;
-use sheet::narrowing::Run;
-use sheet::narrowing::narrow_sheet;
-use sheet::passes::Outcome;
 
 // How many bytes were written, or the refusal that left the buffer as it was.
 pub enum Written {

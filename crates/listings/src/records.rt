@@ -1,6 +1,7 @@
 // Prints what the reader gives of a text, record after record, each with the part of the text where it stands. Thin over the crate `reader`.
 use libc::STDOUT_FILENO;
 use reader::cursor::Step;
+use reader::text::Reader;
 use reader::text::nth;
 use reader::text::part;
 use sheet::kept::Record;
@@ -52,8 +53,22 @@ fn put_step(step: Step) {
     }
 }
 
-// The first n answers of the reader, each in a line, the part of the text in brackets.
+// The first answer of a reader made over a text.
+fn first(text: &[u8]) -> Step {
+    let given = Reader::new(text).next();
+    given.step
+}
+
+// A line for that answer.
+fn show_first(text: &[u8]) {
+    put_text(b"first ");
+    put_step(first(text));
+    put_text(b"\n");
+}
+
+// That line, then the first n answers of the reader, each in a line, the part of the text in brackets.
 fn show_records(text: &[u8], n: u16) {
+    show_first(text);
     let mut i: u16 = 0;
     while i < n {
         put_step(nth(text, i));

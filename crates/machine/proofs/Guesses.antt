@@ -1,4 +1,4 @@
--- The least operand by a guess: the patterns next to one, what the two sums of `check` show, and what `trim` cuts by it. Rests on Formats and on `ladder`'s Trimming.
+-- The least operand by a guess: the patterns next to one, what the two sums of `check` show, and what `trim` cuts by it. Rests on Floats, HalfUlps, `arith`'s Formats and `ladder`'s Trimming.
 use mathlib.Core.Path.{_≡_, refl, sym, ap, subst, _∙_}
 use mathlib.Core.Logic.{inl, inr}
 use mathlib.Core.Bool.{Bool, true, false, not, cond, _&&_, _||_, true≢false, Bool·beq}

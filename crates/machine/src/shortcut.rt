@@ -134,10 +134,10 @@ fn judge(wide: bool, x: Interval, a: Interval, b: Interval, p: Pair, q: Pair, u:
     if passes(wide, p.sum, u, b) {
         return Verdict::None;
     }
-    if passes(wide, q.sum, u, b) {
-        return Verdict::None;
+    if !passes(wide, q.sum, u, b) {
+        return Verdict::Bounds;
     }
-    Verdict::Bounds
+    Verdict::None
 }
 
 // The ends, each in its one pattern.

@@ -1,22 +1,19 @@
--- Sheets by the lists of their cells and records: such a sheet passes its own test and is in its written form, and adding puts one more at the end. Rests on specs/Texts and the laws of `sheet`.
+-- Sheets by the lists of their cells and records: filled place by place, such a sheet passes its own test, and tidied it is the built one. Rests on specs/Texts and the laws of `sheet`.
 use mathlib.Core.Path.{_≡_, refl, sym, ap, _∙_}
-use mathlib.Core.List.{List, [], _∷_, _++_, map, append-assoc, map-append}
+use mathlib.Core.List.{List, [], _∷_, _++_, append-assoc}
 use Prim.Native.Nat.{ℕ, suc, _+_, _-_, _≤_, _<_}
 use native.Mathlib.Omega.{arith}
-use lib.ListN.{length, set, replicate, length-append, length-map}
+use lib.ListN.{length, set, replicate, length-append}
 use lib.Seq.{take-at, set-at}
-use borrow.Author.Tests.{lt-ltb}
 use Rattle.arith.specs.declared.interval.Interval.{Interval}
-use Rattle.arith.proofs.Valid.{valid-bounded, written-span}
 use Rattle.sheet.specs.declared.kept.Record.{Record}
+use Rattle.sheet.specs.declared.kept.Sheet.{Sheet}
 use Rattle.sheet.specs.declared.kept.Answer.the-variants.{Done}
-use Rattle.sheet.specs.Cells.{ordinalsOf, patternsOf, canonicalCell}
 use Rattle.sheet.specs.Faults.{headFault, cellFault, recordFault}
-use Rattle.sheet.specs.Sheets.{noCell, noRecord, filled, usedCells, usedRecords, tidied, withCell, withRecord, firstFault, testOf, addCellOf, addRecordOf}
-use Rattle.sheet.specs.Lists.{testOfLists}
-use Rattle.sheet.proofs.Answers.{all-good, passes-test, added}
+use Rattle.sheet.specs.Sheets.{noCell, noRecord, filled, usedCells, usedRecords, tidied, withCell, withRecord, firstFault, testOfLists, testOf, Sound}
+use Rattle.sheet.proofs.Answers.{all-good, passes-test}
 use Rattle.sheet.proofs.Firsts.{faultless, none-found}
-use Rattle.sheet.proofs.Cells.{fault-free, canonical-faultless}
+use Rattle.sheet.proofs.Filling.{length-filled}
 use Rattle.reader.specs.Texts.{built}
 
 -- ---- lists without a fault
@@ -41,26 +38,9 @@ module _ {A : Type 0} (fault : A → ℕ) where
   faultless-append [] ys f g = g
   faultless-append (x ∷ xs) ys f g = (f .0, faultless-append xs ys (f .1) g)
 
-  pub faultless-front : (xs ys : List A) → Faultless fault (xs ++ ys) → Faultless fault xs
-  faultless-front [] ys f = tt
-  faultless-front (x ∷ xs) ys f = (f .0, faultless-front xs ys (f .1))
-
   pub faultless-next : (xs : List A) (y : A) (ys : List A) → Faultless fault (xs ++ (y ∷ ys)) → fault y ≡ 0
   faultless-next [] y ys f = f .0
   faultless-next (x ∷ xs) y ys f = faultless-next xs y ys (f .1)
-
--- ---- canonical patterns
-module _ (w : ℕ) where
-  canonical-again : (I : Interval) → cellFault w I ≡ 0 → canonicalCell w (canonicalCell w I) ≡ canonicalCell w I
-  canonical-again I z = ap (patternsOf w) (written-span w (ordinalsOf w I) (valid-bounded w I (fault-free w I z) .0))
-
-  cells-faultless : (cs : List Interval) → Faultless (cellFault w) cs → Faultless (cellFault w) (map (canonicalCell w) cs)
-  cells-faultless [] f = tt
-  cells-faultless (I ∷ cs) f = (canonical-faultless w I (f .0), cells-faultless cs (f .1))
-
-  cells-again : (cs : List Interval) → Faultless (cellFault w) cs → map (canonicalCell w) (map (canonicalCell w) cs) ≡ map (canonicalCell w) cs
-  cells-again [] f = refl
-  cells-again (I ∷ cs) f = rw (canonical-again I (f .0), cells-again cs (f .1))
 
 -- ---- what the test of such lists asks
 pub record Passing (w m : ℕ) (cs : List Interval) (ts : List Record) : Type 0 where
@@ -81,45 +61,59 @@ lists-passing w m cs ts e =
       records = faultless-list (recordFault (length cs)) noRecord 0 ts (p .records-good);
     }
 
+-- ---- the sheet with these lists in its places, as they are
+abbrev pub loaded : ℕ → ℕ → List Interval → List Record → Sheet
+loaded w m cs ts =
+    record {
+      width = w;
+      limit = m;
+      «cell_count» = length cs;
+      «record_count» = length ts;
+      cells = filled 64 noCell cs (length cs);
+      records = filled 128 noRecord ts (length ts);
+    }
+
 -- one more in the place that comes next
-filled-more : {A : Type 0} (places n : ℕ) (v a : A) (l : List A) → length l ≡ n → n < places → set (filled places v l n) n a ≡ filled places v (l ++ (a ∷ [])) (n + 1)
-filled-more places n v a l e h =
+filled-more : {A : Type 0} (places : ℕ) (v a : A) (l : List A) → length l < places → set (filled places v l (length l)) (length l) a ≡ filled places v (l ++ (a ∷ [])) (length l + 1)
+filled-more places v a l h =
+    let n = length l in
     let m : places - n ≡ suc (places - (n + 1)) = omega arith in
-    rw (m, set-at l v (replicate (places - (n + 1)) v) a n e) (sym (append-assoc l (a ∷ []) (replicate (places - (n + 1)) v)))
+    rw (m, set-at l v (replicate (places - (n + 1)) v) a n refl) (sym (append-assoc l (a ∷ []) (replicate (places - (n + 1)) v)))
 
 pub length-more : {A : Type 0} (l : List A) (a : A) → length (l ++ (a ∷ [])) ≡ length l + 1
 length-more l a = length-append l (a ∷ [])
 
-module _ (w m : ℕ) (cs : List Interval) (ts : List Record) (g : Passing w m cs ts) where
-  used-cells : usedCells (built w m cs ts) ≡ map (canonicalCell w) cs
-  used-cells = take-at (map (canonicalCell w) cs) (replicate (64 - length cs) noCell) (length cs) (length-map cs (canonicalCell w))
+module _ (w m : ℕ) (cs : List Interval) (ts : List Record) where
+  pub load-cell : (I : Interval) → length cs < 64 → withCell (loaded w m cs ts) I ≡ loaded w m (cs ++ (I ∷ [])) ts
+  load-cell I h = rw (length-more cs I, filled-more 64 noCell I cs h)
 
-  used-records : usedRecords (built w m cs ts) ≡ ts
+  pub load-record : (t : Record) → length ts < 128 → withRecord (loaded w m cs ts) t ≡ loaded w m cs (ts ++ (t ∷ []))
+  load-record t h = rw (length-more ts t, filled-more 128 noRecord t ts h)
+
+  used-cells : usedCells (loaded w m cs ts) ≡ cs
+  used-cells = take-at cs (replicate (64 - length cs) noCell) (length cs) refl
+
+  used-records : usedRecords (loaded w m cs ts) ≡ ts
   used-records = take-at ts (replicate (128 - length ts) noRecord) (length ts) refl
 
-  pub built-passes : testOf (built w m cs ts) ≡ Done
-  built-passes =
-      passes-test w m (length cs) (length ts) (usedCells (built w m cs ts)) (usedRecords (built w m cs ts))
+  pub loaded-tidied : tidied (loaded w m cs ts) ≡ built w m cs ts
+  unfolding tidied
+  loaded-tidied = rw (used-cells, used-records)
+
+  pub loaded-passes : Passing w m cs ts → testOf (loaded w m cs ts) ≡ Done
+  loaded-passes g =
+      passes-test w m (length cs) (length ts) (usedCells (loaded w m cs ts)) (usedRecords (loaded w m cs ts))
       (record {
         head = g .head;
         few-cells = g .few-cells;
         few-records = g .few-records;
-        cells-good = rw used-cells (first-none (cellFault w) 0 (map (canonicalCell w) cs) (cells-faultless w cs (g .cells)));
+        cells-good = rw used-cells (first-none (cellFault w) 0 cs (g .cells));
         records-good = rw used-records (first-none (recordFault (length cs)) 0 ts (g .records));
       })
 
-  built-tidied : tidied (built w m cs ts) ≡ built w m cs ts
-  unfolding tidied
-  built-tidied = rw (used-cells, used-records, cells-again w cs (g .cells))
-
-  pub add-cell : (I : Interval) → cellFault w I ≡ 0 → length cs < 64 → addCellOf (built w m cs ts) I ≡ record { sheet = built w m (cs ++ (I ∷ [])) ts; answer = Done }
-  unfolding addCellOf
-  add-cell I z h =
-      sym (added (built w m cs ts) (withCell (tidied (built w m cs ts)) (canonicalCell w I)) (testOf (built w m cs ts)) (cellFault w I) _ built-passes z (lt-ltb (length cs) 64 h))
-      ∙ rw (built-tidied, length-more cs I, map-append (canonicalCell w) cs (I ∷ []), filled-more 64 (length cs) noCell (canonicalCell w I) (map (canonicalCell w) cs) (length-map cs (canonicalCell w)) h)
-
-  pub add-record : (t : Record) → recordFault (length cs) t ≡ 0 → length ts < 128 → addRecordOf (built w m cs ts) t ≡ record { sheet = built w m cs (ts ++ (t ∷ [])); answer = Done }
-  unfolding addRecordOf
-  add-record t z h =
-      sym (added (built w m cs ts) (withRecord (tidied (built w m cs ts)) t) (testOf (built w m cs ts)) (recordFault (length cs) t) _ built-passes z (lt-ltb (length ts) 128 h))
-      ∙ rw (built-tidied, length-more ts t, filled-more 128 (length ts) noRecord t ts refl h)
+  pub loaded-sound : Passing w m cs ts → Sound (loaded w m cs ts)
+  loaded-sound g = record {
+    cells-long = length-filled 64 (length cs) noCell cs refl (g .few-cells);
+    records-long = length-filled 128 (length ts) noRecord ts refl (g .few-records);
+    passes = loaded-passes g;
+  }

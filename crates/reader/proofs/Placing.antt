@@ -1,4 +1,4 @@
--- 01's line of a refusal: a cursor reached from the start keeps the line that it stands in, and that is the place of the refusal of a whole text. Rests on Moving and Following.
+-- 01's line of a refusal: a cursor reached from the start keeps the line that it stands in, and that is the place of the refusal of a whole text. Rests on Moving.
 use mathlib.Core.Path.{_≡_, refl, ap, subst, _∙_}
 use mathlib.Core.List.{List}
 use Prim.Native.Nat.{ℕ, zero, suc, _≤_}
@@ -9,12 +9,11 @@ use Rattle.sheet.specs.declared.kept.Sheet.{Sheet}
 use Rattle.sheet.specs.declared.kept.Kept.{Kept}
 use Rattle.reader.specs.Bytes.{countOf}
 use Rattle.reader.specs.Steps.{nextOf, past, afterOf, cursorAfter, lineNumber}
-use Rattle.reader.specs.Readings.{refusedText, readOf, sheetAfter, EndsWith, ReadBy, RefusedIn}
+use Rattle.reader.specs.Readings.{sheetAfter, refusedText, readBy, readOf, RefusedIn}
 use Rattle.reader.specs.declared.cursor.Cursor.{Cursor}
 use Rattle.reader.specs.declared.cursor.Step.{Step}
 use Rattle.reader.specs.declared.cursor.Step.the-variants.{Head, Cell, Record, End, Refused}
 use Rattle.reader.proofs.Moving.{Lined, StepFrom, a-head, a-cell, a-record, too-long, a-refusal, step-from}
-use Rattle.reader.proofs.Following.{read-records}
 
 -- ---- the cursor
 after-line : (text : List ℕ) (c : Cursor) → Lined text c → (t : Step) → StepFrom text c t → Lined text (past t c)
@@ -43,14 +42,13 @@ module _ (text : List ℕ) (r : Refusal) where
     line = λ h. place-line text (cursorAfter k text) r (subst (StepFrom text (cursorAfter k text)) e (step-from text (cursorAfter k text))) h ∙ kept-line k text;
   }
 
-  ends-refused : (k : ℕ) (s : Sheet) (t : Step) → nextOf text (cursorAfter k text) ≡ t → EndsWith s t (refusedText r) → RefusedIn text r
-  ends-refused k s (Head w m d) f e = absurd e
-  ends-refused k s (Cell I d) f e = absurd e
-  ends-refused k s (Record t d) f e = absurd e
-  ends-refused k s End f e = let a = ap (λ (a : Kept). a .answer) e in absurd (let z : _≡_ {A = ℕ} 0 1 = cc in omega arith)
-  ends-refused k s (Refused q) f e = let a = ap (λ (a : Kept). a .answer) e in let i : q ≡ r = cc in refused-at k (f ∙ ap Refused i)
+  by-refused : (k : ℕ) (s : Sheet) (t : Step) → nextOf text (cursorAfter k text) ≡ t → readBy t s ≡ refusedText r → RefusedIn text r
+  by-refused k s (Head w m d) f e = let a = ap (λ (a : Kept). a .answer) e in absurd (let z : _≡_ {A = ℕ} 0 1 = cc in omega arith)
+  by-refused k s (Cell I d) f e = let a = ap (λ (a : Kept). a .answer) e in absurd (let z : _≡_ {A = ℕ} 0 1 = cc in omega arith)
+  by-refused k s (Record t d) f e = let a = ap (λ (a : Kept). a .answer) e in absurd (let z : _≡_ {A = ℕ} 0 1 = cc in omega arith)
+  by-refused k s End f e = let a = ap (λ (a : Kept). a .answer) e in absurd (let z : _≡_ {A = ℕ} 0 1 = cc in omega arith)
+  by-refused k s (Refused q) f e = let a = ap (λ (a : Kept). a .answer) e in let i : q ≡ r = cc in refused-at k (f ∙ ap Refused i)
 
   pub refused-line : readOf text ≡ refusedText r → RefusedIn text r
-  refused-line e =
-      let b = subst (ReadBy text) e (read-records text) in
-      ends-refused (b .records) (sheetAfter (b .records) text) (nextOf text (cursorAfter (b .records) text)) refl (b .ends)
+  unfolding readOf
+  refused-line e = by-refused (length text) (sheetAfter (length text) text) (nextOf text (cursorAfter (length text) text)) refl e

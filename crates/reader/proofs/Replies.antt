@@ -1,5 +1,5 @@
--- What a step tells is the reply due at the cursor, test by test; and where the cursor stays. Rests on Staying.
-use mathlib.Core.Path.{_≡_, refl}
+-- What a step tells is the reply due at the cursor, test by test; where the cursor stays; and what a whole text tells. Rests on Staying.
+use mathlib.Core.Path.{_≡_, refl, sym, ap, subst, _∙_}
 use mathlib.Core.Bool.{Bool, true, false, not, cond}
 use mathlib.Core.List.{List}
 use Prim.Native.Nat.{ℕ}
@@ -8,11 +8,16 @@ use lib.ListN.{length, drop}
 use Rattle.arith.specs.Answers.{Reply}
 use Rattle.arith.specs.Replies.{replyAfter}
 use Rattle.arith.proofs.Replies.{on-test}
+use Rattle.sheet.specs.declared.kept.Sheet.{Sheet}
+use Rattle.sheet.specs.declared.kept.Kept.{Kept}
 use Rattle.sheet.specs.Faults.{headFault, cellFault, recordFault}
+use Rattle.sheet.specs.Sheets.{blank}
+use Rattle.sheet.specs.Replies.{keptTold}
 use Rattle.reader.specs.Bytes.{indexOf, before}
 use Rattle.reader.specs.Lines.{feed, lineOf}
 use Rattle.reader.specs.Steps.{headStep, cellStep, recordStep, admitted, pastLine, stepAt, nextOf, past, afterOf}
 use Rattle.reader.specs.Replies.{stepTold, lineTests, lineValues, replyAt, replyNext, Tells}
+use Rattle.reader.specs.Readings.{sheetAfter, readBy, stopOf, readOf, ReadsText}
 use Rattle.reader.specs.declared.line.Line.{Line}
 use Rattle.reader.specs.declared.line.Line.the-variants as Line
 use Rattle.reader.specs.declared.cursor.Cursor.{Cursor}
@@ -56,3 +61,37 @@ past-refused (Refused r) c n = refl
 pub step-tells : (text : List ℕ) (c : Cursor) → Tells text c (nextOf text c) (afterOf text c)
 unfolding afterOf
 step-tells text c = record { told = next-told text c; refused = past-refused (nextOf text c) c; ended = stays-ended text c }
+
+-- ---- a whole text, by the step at which its reader stops
+stop-number : (t : Step) (s : Sheet) → keptTold (readBy t s) .number ≡ stepTold t .number
+stop-number (Head w m next) s = refl
+stop-number (Cell I next) s = refl
+stop-number (Record t next) s = refl
+stop-number End s = refl
+stop-number (Refused r) s = refl
+
+stop-place : (t : Step) (s : Sheet) → keptTold (readBy t s) .place ≡ stepTold t .place
+stop-place (Head w m next) s = refl
+stop-place (Cell I next) s = refl
+stop-place (Record t next) s = refl
+stop-place End s = refl
+stop-place (Refused r) s = refl
+
+stop-refused : (t : Step) (s : Sheet) → (keptTold (readBy t s) .number ≡ 0 → ⊥) → readBy t s .sheet ≡ blank 0 0
+stop-refused (Head w m next) s n = absurd (n refl)
+stop-refused (Cell I next) s n = absurd (n refl)
+stop-refused (Record t next) s n = absurd (n refl)
+stop-refused End s n = absurd (n refl)
+stop-refused (Refused r) s n = refl
+
+pub text-read : (text : List ℕ) {k : Kept} → k ≡ readOf text → ReadsText text k
+unfolding readOf
+text-read text e =
+    let t = nextOf text (stopOf text) in
+    let s = sheetAfter (length text) text in
+    subst (ReadsText text) (sym e) (record {
+      answer = refl;
+      number = stop-number t s ∙ ap (λ (d : Reply ℕ). d .number) (next-told text (stopOf text));
+      place = stop-place t s ∙ ap (λ (d : Reply ℕ). d .place) (next-told text (stopOf text));
+      refused = stop-refused t s;
+    })

@@ -1,5 +1,5 @@
 -- The text of a sheet reads back as that sheet. Rests on Building, Records and Walking.
-use mathlib.Core.Path.{_≡_, refl, sym, ap, _∙_}
+use mathlib.Core.Path.{_≡_, refl, sym, ap, subst, _∙_}
 use mathlib.Core.Bool.{Bool, true, false, _||_, true≢false}
 use mathlib.Core.List.{List, [], _∷_, _++_, append-assoc, append-nil}
 use Prim.Native.Nat.{ℕ, suc, _+_, _-_, _*_, _≤_, _<_}
@@ -14,18 +14,18 @@ use Rattle.sheet.specs.declared.kept.Record.{Record}
 use Rattle.sheet.specs.declared.kept.Sheet.{Sheet}
 use Rattle.sheet.specs.declared.kept.Answer.the-variants.{Done}
 use Rattle.sheet.specs.Faults.{headFault, cellFault, recordFault}
-use Rattle.sheet.specs.Sheets.{blank, usedCells, usedRecords, tidied, testOf}
-use Rattle.sheet.specs.Lists.{testOfLists}
-use Rattle.sheet.proofs.Answers.{opened, all-good}
+use Rattle.sheet.specs.Sheets.{usedCells, usedRecords, tidied, testOfLists, testOf}
+use Rattle.sheet.proofs.Answers.{all-good}
 use Rattle.sheet.proofs.Records.{names-of, first-in, second-in, third-in}
 use Rattle.sheet.proofs.Tested.{good-head}
 use Rattle.reader.specs.Bytes.{indexOf, countOf}
 use Rattle.reader.specs.Lines.{feed}
 use Rattle.reader.specs.Steps.{start, headStep, cellStep, recordStep, admitted, nextOf}
-use Rattle.reader.specs.Readings.{readFrom, readOf}
+use Rattle.reader.specs.Readings.{readOf}
 use Rattle.reader.specs.Texts.{headText, cellText, recordText, textLines, textFor, built, textOf}
 use Rattle.reader.specs.declared.cursor.Step.the-variants as Step
-use Rattle.reader.proofs.Building.{Faultless, faultless-front, faultless-next, Passing, lists-passing, length-more, add-cell, add-record}
+use Rattle.reader.proofs.Building.{Faultless, faultless-next, Passing, lists-passing, loaded, length-more, load-cell, load-record, loaded-tidied}
+use Rattle.reader.proofs.Following.{Reached, reached-first, reached-next, read-there}
 use Rattle.reader.proofs.Records.{cell-small, Few, head-back, cell-back, record-back, head-free, cell-free, record-free, head-length, cell-length, record-length}
 use Rattle.reader.proofs.Walking.{after, next-line, walk}
 
@@ -109,50 +109,36 @@ module _ (w m : ℕ) (cs : List Interval) (ts : List Record) (tested : testOfLis
 
   one-cell :
       (before : List Interval) (I : Interval) (later : List Interval) (read rest : List ℕ) (n : ℕ) → cs ≡ before ++ (I ∷ later) → text ≡ read ++ (cellText w I ++ (feed ∷ rest)) → 0 < length read →
-      readFrom (suc n) text (after read w (length before) 0) (built w m before [])
-      ≡ readFrom n text (after (read ++ (cellText w I ++ (feed ∷ []))) w (length (before ++ (I ∷ []))) 0) (built w m (before ++ (I ∷ [])) [])
-  unfolding readFrom
-  one-cell before I later read rest n e t p =
-      let f = rw e at (g .cells) in
-      let z = faultless-next (cellFault w) before I later f in
+      Reached text n (after read w (length before) 0) (loaded w m before []) →
+      Reached text (suc n) (after (read ++ (cellText w I ++ (feed ∷ []))) w (length (before ++ (I ∷ []))) 0) (loaded w m (before ++ (I ∷ [])) [])
+  one-cell before I later read rest n e t p r =
+      let z = faultless-next (cellFault w) before I later (rw e at (g .cells)) in
       let k : length before < 64 = omega (arith, g .few-cells, ap length e ∙ length-append before (I ∷ later)) in
-      let q : Passing w m before [] = record { head = g .head; few-cells = omega arith; few-records = omega arith; cells = faultless-front (cellFault w) before (I ∷ later) f; records = tt } in
-      rw (cell-next text read rest w (length before) 0 fits p I t z k, add-cell w m before [] q I z k, length-more before I)
+      rw (← load-cell w m before [] I k, length-more before I) (reached-next text r _ (cell-next text read rest w (length before) 0 fits p I t z k))
 
   one-record :
-      (before : List Record) (r : Record) (later : List Record) (read rest : List ℕ) (n : ℕ) → ts ≡ before ++ (r ∷ later) → text ≡ read ++ (recordText r ++ (feed ∷ rest)) → 0 < length read →
-      readFrom (suc n) text (after read w (length cs) (length before)) (built w m cs before)
-      ≡ readFrom n text (after (read ++ (recordText r ++ (feed ∷ []))) w (length cs) (length (before ++ (r ∷ [])))) (built w m cs (before ++ (r ∷ [])))
-  unfolding readFrom
-  one-record before r later read rest n e t p =
-      let f = rw e at (g .records) in
-      let z = faultless-next (recordFault (length cs)) before r later f in
-      let k : length before < 128 = omega (arith, g .few-records, ap length e ∙ length-append before (r ∷ later)) in
-      let q : Passing w m cs before = record { head = g .head; few-cells = g .few-cells; few-records = omega arith; cells = g .cells; records = faultless-front (recordFault (length cs)) before (r ∷ later) f } in
-      rw (record-next text read rest w (length cs) (length before) fits p r t (few r z) z k, add-record w m cs before q r z k, length-more before r)
+      (before : List Record) (v : Record) (later : List Record) (read rest : List ℕ) (n : ℕ) → ts ≡ before ++ (v ∷ later) → text ≡ read ++ (recordText v ++ (feed ∷ rest)) → 0 < length read →
+      Reached text n (after read w (length cs) (length before)) (loaded w m cs before) →
+      Reached text (suc n) (after (read ++ (recordText v ++ (feed ∷ []))) w (length cs) (length (before ++ (v ∷ [])))) (loaded w m cs (before ++ (v ∷ [])))
+  one-record before v later read rest n e t p r =
+      let z = faultless-next (recordFault (length cs)) before v later (rw e at (g .records)) in
+      let k : length before < 128 = omega (arith, g .few-records, ap length e ∙ length-append before (v ∷ later)) in
+      rw (← load-record w m cs before v k, length-more before v) (reached-next text r _ (record-next text read rest w (length cs) (length before) fits p v t (few v z) z k))
 
-  -- the steps after the head: a record each, and the end
-  abbrev spare : ℕ
-  spare = length text - (length cs + length ts + 1)
-
-  steps : length text ≡ length cs + (length ts + suc spare)
-  steps =
+  -- there are as many records as bytes, or fewer
+  short : length ts + (length cs + 1) ≤ length text
+  short =
       let a = lines-long (cellText w) cs in
       let b = lines-long recordText ts in
       let c : length text ≡ length (headText w m) + suc (length (textLines (cellText w) cs) + length (textLines recordText ts)) = simp (length-append, length-append) in
       omega arith
 
-  first : readFrom (suc (length text)) text start (blank 0 0) ≡ readFrom (length text) text (after headed w 0 0) (built w m [] [])
-  unfolding readFrom headText
-  first = rw (head-next (textLines (cellText w) cs ++ textLines recordText ts) w m fits (g .head), sym (opened w m (headFault w m) refl (g .head)))
+  first : Reached text 1 (after headed w 0 0) (loaded w m [] [])
+  unfolding headText
+  first = reached-next text (reached-first text) _ (head-next (textLines (cellText w) cs ++ textLines recordText ts) w m fits (g .head))
 
-  last : readFrom (suc spare) text (after text w (length cs) (length ts)) (built w m cs ts) ≡ record { sheet = built w m cs ts; answer = Done }
-  unfolding readFrom
-  last = rw (end-next text w (length cs) (length ts) fits (omega (arith, steps)))
-
-  pub lists-back : readOf (textFor w m cs ts) ≡ record { sheet = built w m cs ts; answer = Done }
-  unfolding readOf
-  lists-back =
+  all : Reached text (length ts + (length cs + 1)) (after text w (length cs) (length ts)) (loaded w m cs ts)
+  all =
       let cells = textLines (cellText w) cs in
       let records = textLines recordText ts in
       let p : 0 < length headed = simp length-append (omega arith) in
@@ -160,12 +146,14 @@ module _ (w m : ℕ) (cs : List Interval) (ts : List Record) (tested : testOfLis
       let a : text ≡ headed ++ (cells ++ records) = sym (append-assoc (headText w m) (feed ∷ []) (cells ++ records)) in
       let b : (headed ++ cells) ++ records ≡ text = append-assoc headed cells records ∙ sym a in
       let c : text ≡ (headed ++ cells) ++ (records ++ []) = sym b ∙ rw (append-nil records) in
-      first
-      ∙ ap (λ (n : ℕ). readFrom n text (after headed w 0 0) (built w m [] [])) steps
-      ∙ walk (cellText w) text cs (λ r l. after r w (length l) 0) (λ l. built w m l []) one-cell [] cs headed records (length ts + suc spare) refl a p
-      ∙ walk recordText text ts (λ r l. after r w (length cs) (length l)) (λ l. built w m cs l) one-record [] ts (headed ++ cells) [] (suc spare) refl c q
-      ∙ ap (λ (r : List ℕ). readFrom (suc spare) text (after r w (length cs) (length ts)) (built w m cs ts)) b
-      ∙ last
+      let d = walk (cellText w) text cs (λ r l. after r w (length l) 0) (λ l. loaded w m l []) one-cell [] cs headed records 1 refl a p first in
+      subst (λ (r : List ℕ). Reached text (length ts + (length cs + 1)) (after r w (length cs) (length ts)) (loaded w m cs ts)) b
+      (walk recordText text ts (λ r l. after r w (length cs) (length l)) (λ l. loaded w m cs l) one-record [] ts (headed ++ cells) [] (length cs + 1) refl c q d)
+
+  pub lists-back : readOf (textFor w m cs ts) ≡ record { sheet = built w m cs ts; answer = Done }
+  lists-back =
+      let e = end-next text w (length cs) (length ts) fits (omega (arith, short)) in
+      (rw e at (read-there text all short (rw e tt))) ∙ rw (loaded-tidied w m cs ts)
 
 -- ---- a kept sheet that its own test lets pass reads back in its written form, each end in its one pattern and unused places zero
 pub round-trip : (s : Sheet) → length (s .cells) ≡ 64 → length (s .records) ≡ 128 → testOf s ≡ Done → readOf (textOf s) ≡ record { sheet = tidied s; answer = Done }

@@ -1,8 +1,7 @@
--- Reading on over lines in the middle of a text: one line, and a line for each member of a list. Rests on specs/Readings, Counting and Fields.
+-- Reading on over lines in the middle of a text: one line, and a line for each member of a list. Rests on Following, Counting and Fields.
 use mathlib.Core.Path.{_≡_, sym, ap, _∙_}
 use mathlib.Core.List.{List, [], _∷_, _++_, append-assoc, append-nil}
 use Prim.Native.Nat.{ℕ, suc, _+_, _≤_, _<_}
-use native.Mathlib.Nat.{suc-add}
 use native.Mathlib.Omega.{arith}
 use lib.ListN.{length, length-append}
 use lib.Seq.{drop-append-seam}
@@ -11,9 +10,9 @@ use Rattle.sheet.specs.declared.kept.Sheet.{Sheet}
 use Rattle.reader.specs.Bytes.{countOf}
 use Rattle.reader.specs.Lines.{feed, lineOf}
 use Rattle.reader.specs.Steps.{admitted, lineAfter, nextOf}
-use Rattle.reader.specs.Readings.{readFrom}
 use Rattle.reader.specs.Texts.{textLines}
 use Rattle.reader.specs.declared.cursor.Cursor.{Cursor}
+use Rattle.reader.proofs.Following.{Reached}
 use Rattle.reader.proofs.Counting.{count-append, count-le, line-on}
 use Rattle.reader.proofs.Fields.{Free, index-free, before-free, count-free}
 
@@ -45,20 +44,20 @@ next-line read line rest w i j f h =
 pub walk :
     {A : Type 0} (line : A → List ℕ) (text : List ℕ) (all : List A) (cursor : List ℕ → List A → Cursor) (sheet : List A → Sheet) →
     ((before : List A) (v : A) (later : List A) (read rest : List ℕ) (n : ℕ) → all ≡ before ++ (v ∷ later) → text ≡ read ++ (line v ++ (feed ∷ rest)) → 0 < length read →
-    readFrom (suc n) text (cursor read before) (sheet before) ≡ readFrom n text (cursor (read ++ (line v ++ (feed ∷ []))) (before ++ (v ∷ []))) (sheet (before ++ (v ∷ [])))) →
+    Reached text n (cursor read before) (sheet before) → Reached text (suc n) (cursor (read ++ (line v ++ (feed ∷ []))) (before ++ (v ∷ []))) (sheet (before ++ (v ∷ [])))) →
     (before later : List A) (read rest : List ℕ) (n : ℕ) → all ≡ before ++ later → text ≡ read ++ (textLines line later ++ rest) → 0 < length read →
-    readFrom (length later + n) text (cursor read before) (sheet before) ≡ readFrom n text (cursor (read ++ textLines line later) all) (sheet all)
+    Reached text n (cursor read before) (sheet before) → Reached text (length later + n) (cursor (read ++ textLines line later) all) (sheet all)
 unfolding textLines
-walk line text all cursor sheet one before [] read rest n e t p =
+walk line text all cursor sheet one before [] read rest n e t p r =
     let f : all ≡ before = e ∙ append-nil before in
     let z : 0 + n ≡ n = omega arith in
-    rw (f, append-nil read, z)
-walk line text all cursor sheet one before (v ∷ later) read rest n e t p =
+    rw (f, append-nil read, z) r
+walk line text all cursor sheet one before (v ∷ later) read rest n e t p r =
     let more = textLines line later in
     let here : text ≡ read ++ (line v ++ (feed ∷ (more ++ rest))) = t ∙ ap (λ (l : List ℕ). read ++ l) (append-assoc (line v) (feed ∷ more) rest) in
     let past : (l : List ℕ) → (read ++ (line v ++ (feed ∷ []))) ++ l ≡ read ++ (line v ++ (feed ∷ l)) = λ l. append-assoc read (line v ++ (feed ∷ [])) l ∙ ap (λ (k : List ℕ). read ++ k) (append-assoc (line v) (feed ∷ []) l) in
     let some : 0 < length (read ++ (line v ++ (feed ∷ []))) = simp length-append (omega arith) in
-    rw (suc-add (length later) n)
-    (one before v later read (more ++ rest) (length later + n) e here p
-    ∙ walk line text all cursor sheet one (before ++ (v ∷ [])) later (read ++ (line v ++ (feed ∷ []))) rest n (e ∙ sym (append-assoc before (v ∷ []) later)) (here ∙ sym (past (more ++ rest))) some
-    ∙ ap (λ (r : List ℕ). readFrom n text (cursor r all) (sheet all)) (past more))
+    let k : suc (length later) + n ≡ length later + suc n = omega arith in
+    rw (k, ← past more)
+    (walk line text all cursor sheet one (before ++ (v ∷ [])) later (read ++ (line v ++ (feed ∷ []))) rest (suc n) (e ∙ sym (append-assoc before (v ∷ []) later)) (here ∙ sym (past (more ++ rest))) some
+    (one before v later read (more ++ rest) n e here p r))

@@ -1,5 +1,5 @@
 -- What 01's reader gives at a cursor: the record there, the end of the text, or a refusal with its line. Assumes nothing.
-use Prim.Native.Nat.{ℕ, zero, suc, _+_}
+use Prim.Native.Nat.{ℕ, zero, suc, _+_, min}
 use mathlib.Core.Bool.{cond}
 use mathlib.Core.List.{List, []}
 use lib.ListN.{length, take, drop}
@@ -101,6 +101,10 @@ cursorAfter (suc n) text = afterOf text (cursorAfter n text)
 -- the part of the text that the record at the cursor occupies, without its line feed; empty for refusal 8
 unfoldable pub recordAt : List ℕ → Cursor → List ℕ
 recordAt text c = cond (ltb 8192 (length text)) [] (before feed (drop (c .at) text))
+
+-- where this part begins in the text: at the cursor's position, or at the end of the text where that lies past it; for refusal 8 at the start
+unfoldable pub recordStart : List ℕ → Cursor → ℕ
+recordStart text c = cond (ltb 8192 (length text)) 0 (min (c .at) (length text))
 
 -- 01's line at a position, from 1: one more than the line feeds before it. A cursor reached from the start keeps it (`kept-line`, proofs/Placing)
 unfoldable pub lineNumber : List ℕ → ℕ → ℕ

@@ -1,8 +1,8 @@
 // Byte slices: the first place of a byte, the parts before and after it, equality.
 ghost use mathlib.Core.Path.{_≡_};
-ghost use Prim.Native.Nat.{_≤_};
+ghost use Prim.Native.Nat.{_≤_, min};
 ghost use lib.ListN.{length, drop};
-ghost use Rattle.reader.specs.Bytes.{indexOf, before, after, isSame};
+ghost use Rattle.reader.specs.Bytes.{indexOf, before, after, isSame, PartOf};
 
 // The index of the first b, or the length where there is none.
 pub(crate) fn find(s: &[u8], b: u8) -> usize
@@ -51,9 +51,13 @@ pub(crate) fn after(s: &[u8], b: u8) -> &[u8]
     if n < s.len() { &s[n + 1..] } else { &s[..0] }
 }
 
-// The part from a position on.
+// The part from a position on, empty at the end where the position lies past it.
 pub(crate) fn rest(s: &[u8], at: usize) -> &[u8]
-    ensures { λ r. ⌜ now r ≡ drop at (now (s .entry)) ⌝ }
+    ensures { λ r. ⌜ PartOf (s .entry) (min at (length (now (s .entry)))) (drop at (now (s .entry))) r ⌝ }
 {
-    if at <= s.len() { &s[at..] } else { &s[..0] }
+    if at <= s.len() {
+        return &s[at..];
+    }
+    let end = s.len();
+    &s[end..]
 }

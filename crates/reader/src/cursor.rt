@@ -1,8 +1,8 @@
 // The cursor: a position in a text with what the reader keeps, and the record that stands there.
 ghost use mathlib.Core.Path.{_≡_};
-ghost use Rattle.reader.specs.Steps.{start, refusedAt, headStep, cellStep, recordStep, admitted, lineAfter, nextOf, past, advanceOf, cursorAfter, recordAt};
+ghost use Rattle.reader.specs.Bytes.{PartOf};
+ghost use Rattle.reader.specs.Steps.{start, refusedAt, headStep, cellStep, recordStep, admitted, lineAfter, nextOf, past, advanceOf, cursorAfter, recordAt, recordStart};
 ghost use Rattle.reader.specs.Replies.{stepTold, replyNext, Tells};
-use crate::bytes::before;
 use crate::bytes::find;
 use crate::bytes::rest;
 use crate::line::Line;
@@ -233,11 +233,13 @@ pub fn skip(text: &[u8], n: u16) -> Cursor
 
 // The part of the text that the record at the cursor occupies, without its line feed. It is empty for refusal 8 and for empty text.
 pub fn record_at(text: &[u8], c: Cursor) -> &[u8]
-    ensures { λ r. ⌜ now r ≡ recordAt (now (text .entry)) c ⌝ }
+    ensures { λ r. ⌜ PartOf (text .entry) (recordStart (now (text .entry)) c) (recordAt (now (text .entry)) c) r ⌝ }
 {
     if 8192 < text.len() {
         return &text[..0];
     }
     let at = c.at;
-    before(rest(text, at), 10)
+    let line = rest(text, at);
+    let end = find(line, 10);
+    &line[..end]
 }

@@ -1,7 +1,8 @@
 // The reader: a struct with the caller's text and a cursor in it, and thin functions over the covered cursor.
 // The borrow checker covers no function over such a struct, so each is proved by hand. A caller of `nth` and `part`, whose parameters are plain, is covered.
 ghost use mathlib.Core.Path.{_≡_};
-ghost use Rattle.reader.specs.Steps.{start, nextOf, afterOf, cursorAfter, recordAt};
+ghost use Rattle.reader.specs.Bytes.{PartOf};
+ghost use Rattle.reader.specs.Steps.{start, nextOf, afterOf, cursorAfter, recordAt, recordStart};
 ghost use Rattle.reader.specs.Replies.{stepTold, replyNext, Tells};
 use crate::cursor::Cursor;
 use crate::cursor::Step;
@@ -48,7 +49,7 @@ impl<'a> Reader<'a> {
 
     // The part of the text that the record there occupies, refused or not, without its line feed. It is empty for refusal 8 and for empty text.
     pub fn record(self) -> &'a [u8]
-        ensures { λ r. ⌜ now r ≡ recordAt (now (self .entry .text)) (self .entry .cursor) ⌝ }
+        ensures { λ r. ⌜ PartOf (self .entry .text) (recordStart (now (self .entry .text)) (self .entry .cursor)) (recordAt (now (self .entry .text)) (self .entry .cursor)) r ⌝ }
     {
         record_at(self.text, self.cursor)
     }
@@ -65,7 +66,7 @@ pub fn nth(text: &[u8], n: u16) -> Step
 
 // The part of the text that the record after the first n occupies. It is the refused one, or empty at the end, where either comes sooner.
 pub fn part(text: &[u8], n: u16) -> &[u8]
-    ensures { λ r. ⌜ now r ≡ recordAt (now (text .entry)) (cursorAfter n (now (text .entry))) ⌝ }
+    ensures { λ r. ⌜ PartOf (text .entry) (recordStart (now (text .entry)) (cursorAfter n (now (text .entry)))) (recordAt (now (text .entry)) (cursorAfter n (now (text .entry)))) r ⌝ }
 {
     let cursor = skip(text, n);
     Reader { text, cursor }.record()

@@ -1,5 +1,4 @@
 // The narrowing of one sum at width 64 as floats: one where both ends agree, two otherwise, or none.
-use crate::hardware::bits64;
 use crate::narrowings::all_floats;
 use crate::narrowings::one;
 use crate::narrowings::put_intervals;
@@ -7,10 +6,18 @@ use crate::print::put_pattern;
 use crate::print::put_refused;
 use crate::print::put_text;
 use crate::print::put_verdict;
-use arith::floats::FloatAnswer;
-use arith::floats::Floats;
-use arith::floats::narrow_floats;
 use arith::interval::Interval;
+use tazsmibor::floats::FloatAnswer;
+use tazsmibor::floats::Floats;
+use tazsmibor::floats::narrow_floats;
+
+// A float's pattern, and a NaN's for a NaN.
+fn bits64(b: f64) -> u64 {
+    if b == b {
+        return f64::to_bits(b);
+    }
+    0x7FF8_0000_0000_0000
+}
 
 // Whether the floats are an interval's ends: one where these agree, two otherwise, and none where they are crossed.
 fn stands_for(f: Floats, i: Interval) -> bool {

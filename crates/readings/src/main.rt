@@ -1,13 +1,8 @@
-// Test program: 01's readings, a line each, and many forward sums beside the hardware's addition. What it writes is held to the file `stdout`.
-mod compare;
+// Test program: 01's readings of sums, intervals and narrowings, a line each. What it writes is held to the file `stdout`.
 mod floats;
-mod hardware;
 mod intervals;
 mod narrowings;
-mod operands;
 mod print;
-mod refused_sheets;
-mod sheets;
 mod sums;
 mod traps;
 
@@ -17,8 +12,4 @@ fn main() {
     narrowings::read_narrowings();
     traps::read_traps();
     floats::read_floats();
-    sheets::read_sheets();
-    refused_sheets::read_refused_sheets();
-    compare::compare_width(32);
-    compare::compare_width(64);
 }

@@ -49,7 +49,7 @@ fn reply_of(answer: Narrowed) -> Reply {
     }
 }
 
-pub(crate) fn equal_intervals(i: Interval, j: Interval) -> bool {
+fn equal_intervals(i: Interval, j: Interval) -> bool {
     (i.low == j.low) & (i.high == j.high)
 }
 

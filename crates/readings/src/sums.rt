@@ -7,14 +7,14 @@ use crate::print::put_verdict;
 use arith::sum::Sum;
 
 // A sum's answer in numbers: refusal 0 stands for a sum.
-pub(crate) struct Reply {
-    pub(crate) refusal: u64,
-    pub(crate) place: u64,
-    pub(crate) pattern: u64,
-    pub(crate) mark: u64,
+struct Reply {
+    refusal: u64,
+    place: u64,
+    pattern: u64,
+    mark: u64,
 }
 
-pub(crate) fn reply_of(answer: Sum) -> Reply {
+fn reply_of(answer: Sum) -> Reply {
     match answer {
         Sum::Is { pattern, mark } => Reply {
             refusal: 0,

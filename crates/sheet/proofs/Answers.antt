@@ -16,7 +16,7 @@ use Rattle.sheet.specs.declared.kept.Answer.{Answer}
 use Rattle.sheet.specs.declared.kept.Answer.the-variants.{Done, Refused}
 use Rattle.sheet.specs.declared.kept.Kept.{Kept}
 use Rattle.sheet.specs.Faults.{headFault, cellFault, recordFault}
-use Rattle.sheet.specs.Sheets.{refusedAt, andThen, require, faultAt, firstFault, testLists, addTest, keptBy, blank, openOf}
+use Rattle.sheet.specs.Sheets.{refusedAt, andThen, require, faultAt, firstFault, testLists, testOf, tidied, addTest, keptBy, blank, openOf, acceptOf}
 
 -- ---- opening
 module _ (width limit n : ℕ) (e : n ≡ headFault width limit) where
@@ -115,13 +115,26 @@ admitted Done fault room h = go (eqb fault 0) refl room refl h
     go true p false q k = absurd (let z : _≡_ {A = ℕ} 0 1 = cc in omega arith)
     go false p u q k = absurd (let z : _≡_ {A = ℕ} 0 1 = cc in omega arith)
 
--- the answer of an addition, and the sheet it leaves
+-- the answer of a call on a sheet, and the sheet it leaves
 module _ (old new : Sheet) (a b : Answer) (e : a ≡ b) where
-  pub add-kept : (r : Refusal) → a ≡ Refused r → _≡_ {A = Kept} (record { sheet = old; answer = a }) (keptBy b old new)
-  add-kept r q = ap (λ (v : Answer). record { sheet = old; answer = v }) q ∙ ap (λ (v : Answer). keptBy v old new) (sym q ∙ e)
+  pub refused-old : (r : Refusal) → a ≡ Refused r → _≡_ {A = Kept} (record { sheet = old; answer = a }) (keptBy b old new)
+  refused-old r q = ap (λ (v : Answer). record { sheet = old; answer = v }) q ∙ ap (λ (v : Answer). keptBy v old new) (sym q ∙ e)
 
-  pub add-new : a ≡ Done → _≡_ {A = Kept} (record { sheet = new; answer = a }) (keptBy b old new)
-  add-new q = ap (λ (v : Answer). record { sheet = new; answer = v }) q ∙ ap (λ (v : Answer). keptBy v old new) (sym q ∙ e)
+  pub done-new : a ≡ Done → _≡_ {A = Kept} (record { sheet = new; answer = a }) (keptBy b old new)
+  done-new q = ap (λ (v : Answer). record { sheet = new; answer = v }) q ∙ ap (λ (v : Answer). keptBy v old new) (sym q ∙ e)
+
+-- accepting: the answer is the test's, and what passes is tidied
+kept-answer : (a : Answer) (old new : Sheet) → keptBy a old new .answer ≡ a
+kept-answer Done old new = refl
+kept-answer (Refused r) old new = refl
+
+pub accept-answer : (s : Sheet) → acceptOf s .answer ≡ testOf s
+unfolding acceptOf
+accept-answer s = kept-answer (testOf s) s (tidied s)
+
+pub accept-sheet : (s : Sheet) → testOf s ≡ Done → acceptOf s .sheet ≡ tidied s
+unfolding acceptOf
+accept-sheet s t = ap (λ (a : Answer). keptBy a s (tidied s) .sheet) t
 
 pub added :
     (old new : Sheet) (tested : Answer) (fault : ℕ) (room : Bool) → tested ≡ Done → fault ≡ 0 → room ≡ true →

@@ -1,8 +1,8 @@
--- Places filled one after the other: what the loops that tidy rest on.
+-- Places filled one after the other: what the loops that tidy rest on; and lists under a function.
 -- Assumes nothing.
-use mathlib.Core.Path.{_≡_, sym, ap, _∙_}
+use mathlib.Core.Path.{_≡_, refl, sym, ap, _∙_}
 use mathlib.Core.List.{List, [], _∷_, _++_, map, append-assoc, map-append}
-use Prim.Native.Nat.{ℕ, suc, _+_, _-_, _<_, _≤_}
+use Prim.Native.Nat.{ℕ, zero, suc, _+_, _-_, _<_, _≤_}
 use native.Mathlib.Omega.{arith}
 use native.Mathlib.Numerals.{add-one}
 use lib.ListN.{length, getD, take, set, replicate, length-append, length-replicate, length-map}
@@ -42,3 +42,9 @@ length-filled places n v l e le = length-append l (replicate (places - n) v) ∙
 -- a list is as long as its image
 pub mapped-long : {A B : Type 0} (g : A → B) (l : List A) (n : ℕ) → length (map g l) ≡ n → length l ≡ n
 mapped-long g l n e = sym (length-map l g) ∙ e
+
+-- a member under a function
+pub getD-under : {A B : Type 0} (f : A → B) (l : List A) (i : ℕ) (d : A) (d' : B) → i < length l → getD (map f l) i d' ≡ f (getD l i d)
+getD-under f [] i d d' lt = absurd (omega arith)
+getD-under f (x ∷ xs) zero d d' lt = refl
+getD-under f (x ∷ xs) (suc i) d d' lt = getD-under f xs i d d' (omega arith)

@@ -1,4 +1,4 @@
--- Sheets made by opening and adding: each passes the test, and what has no fault and finds room is added. So a caller that tests faults itself is never refused.
+-- Sheets made by opening, tidying and adding: each passes the test, and what has no fault and finds room is added. So a caller that tests faults itself is never refused.
 -- Assumes nothing.
 use mathlib.Core.Path.{_≡_, refl, sym, ap, _∙_}
 use mathlib.Core.List.{List, map}
@@ -18,11 +18,10 @@ use Rattle.sheet.specs.Cells.{canonicalCell}
 use Rattle.sheet.specs.Faults.{headFault, cellFault, recordFault}
 use Rattle.sheet.specs.Sheets.{noCell, noRecord, blank, usedCells, usedRecords, tidied, firstFault, testOf, Sound, withCell, withRecord, openOf, addCellOf, addRecordOf}
 use Rattle.sheet.proofs.Firsts.{faultless-at, none-found}
-use Rattle.sheet.proofs.Filling.{length-filled}
+use Rattle.sheet.proofs.Filling.{getD-under, length-filled}
 use Rattle.sheet.proofs.Answers.{all-good, passes-test, opened, added}
 use Rattle.sheet.proofs.Cells.{canonical-faultless}
 use Rattle.sheet.proofs.Records.{record-more}
-use Rattle.sheet.proofs.Places.{getD-under}
 use Rattle.sheet.proofs.Tidied.{cells-counted, records-counted, tidied-record}
 
 -- a sound sheet by its members: what the test asks of each
@@ -108,8 +107,12 @@ module _ (s : Sheet) (h : Sound s) where
     few-cells = g .few-cells;
     few-records = g .few-records;
     cells = λ i l. rw (tidied-cell i l) (canonical-faultless (s .width) (getD (s .cells) i noCell) (g .cells i l));
-    records = λ k l. rw (tidied-record s (h .cells-long) (h .records-long) (h .passes) k l) (g .records k l);
+    records = λ k l. rw (tidied-record s (h .records-long) (h .passes) k l) (g .records k l);
   }
+
+-- a sound sheet, tidied, is sound
+pub tidied-sound : (s : Sheet) → Sound s → Sound (tidied s)
+tidied-sound s h = sound (tidied s) (tidied-good s h)
 
 -- ---- adding
 -- a member added after the first n: what holds of them and of it holds of all

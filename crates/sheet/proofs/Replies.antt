@@ -1,4 +1,4 @@
--- What opening and adding tell is the reply due, test by test.
+-- What opening, accepting and adding tell is the reply due, test by test.
 -- Assumes nothing.
 use mathlib.Core.Path.{_≡_, refl, sym, ap, ap₂, subst, _∙_}
 use mathlib.Core.Bool.{Bool}
@@ -15,7 +15,7 @@ use Rattle.sheet.specs.declared.kept.Answer.the-variants.{Done, Refused}
 use Rattle.sheet.specs.declared.kept.Kept.{Kept}
 use Rattle.sheet.specs.Cells.{canonicalCell}
 use Rattle.sheet.specs.Faults.{cellFault, recordFault}
-use Rattle.sheet.specs.Sheets.{andThen, keptBy, blank, openOf, firstFault, testLists, testOf, usedCells, usedRecords, addTest, tidied, withCell, withRecord, addCellOf, addRecordOf}
+use Rattle.sheet.specs.Sheets.{andThen, keptBy, blank, openOf, firstFault, testLists, testOf, usedCells, usedRecords, addTest, tidied, withCell, withRecord, acceptOf, addCellOf, addRecordOf}
 use Rattle.sheet.specs.Replies.{testAt, faultless, allFaultless, openTests, listTests, sheetTests, addCellTests, addRecordTests, keptTold, Keeps}
 
 -- ---- the answer of some tests
@@ -73,12 +73,16 @@ module _ (old new : Sheet) where
 keeps-too : {old new : Sheet} {ts : List Test} {r d : Kept} → Keeps old new ts d → r ≡ d → (r ≡ d) × Keeps old new ts r
 keeps-too {old} {new} {ts} k e = (e, subst (Keeps old new ts) (sym e) k)
 
--- ---- opening and adding
+-- ---- opening, accepting and adding
 pub open-keeps : (width limit : ℕ) {r : Kept} → r ≡ openOf width limit → (r ≡ openOf width limit) × Keeps (blank 0 0) (blank width limit) (openTests width limit) r
 unfolding openOf
 open-keeps width limit = keeps-too (keeps (blank 0 0) (blank width limit) (openTests width limit) _ refl)
 
 module _ (s : Sheet) where
+  pub accept-keeps : {r : Kept} → r ≡ acceptOf s → (r ≡ acceptOf s) × Keeps s (tidied s) (sheetTests s) r
+  unfolding acceptOf
+  accept-keeps = keeps-too (keeps s (tidied s) (sheetTests s) _ (sheet-after s))
+
   pub add-cell-keeps :
       (cell : Interval) {r : Kept} → r ≡ addCellOf s cell →
       (r ≡ addCellOf s cell) × Keeps s (withCell (tidied s) (canonicalCell (s .width) cell)) (addCellTests s cell) r

@@ -13,19 +13,16 @@ use Rattle.arith.specs.Formats.{isKnown}
 use Rattle.arith.proofs.Valid.{valid-bounded}
 use Rattle.sheet.specs.declared.kept.Record.{Record}
 use Rattle.sheet.specs.declared.kept.Answer.the-variants.{Done}
-use Rattle.sheet.specs.Members.{Each}
-use Rattle.sheet.specs.Records.{named, Names}
+use Rattle.sheet.specs.Records.{Names}
 use Rattle.sheet.specs.Boxes.{at, Proper, IsBox}
 use Rattle.sheet.specs.Cells.{fractionOf, exponentOf, ordinalsOf, boxOf}
-use Rattle.sheet.specs.Consistency.{AllNames}
 use Rattle.sheet.specs.Faults.{headFault, cellFault, recordFault}
 use Rattle.sheet.specs.Sheets.{noCell, noRecord, testLists}
-use Rattle.sheet.proofs.Members.{each-at}
 use Rattle.sheet.proofs.Answers.{AllGood, all-good, passes-test}
 use Rattle.sheet.proofs.Firsts.{faultless}
 use Rattle.sheet.proofs.Cells.{fault-free}
 use Rattle.sheet.proofs.Records.{names-of}
-use Rattle.sheet.proofs.Places.{getD-under}
+use Rattle.sheet.proofs.Filling.{getD-under}
 
 -- ---- the head
 -- one without a fault: a known width, and a limit from 1 to 65,535
@@ -78,14 +75,6 @@ module _ (width limit m n : ℕ) (cells : List Interval) (records : List Record)
     names = λ k l. names-of m (getD records k noRecord) (faultless (recordFault m) noRecord 0 records (seen .records-good) k l);
     box = λ size. record { cells = length-map cells (ordinalsOf width) ∙ size; proper = proper size };
   }
-
-  -- the first box, and that the records name cells of it
-  module _ (size : length cells ≡ m) where
-    pub first-box : IsBox (fractionOf width) (exponentOf width) (length (boxOf width cells)) (boxOf width cells)
-    first-box = let b = tested .box size in rw (b .cells) b
-
-    pub first-names : AllNames (length (boxOf width cells)) records
-    first-names = rw (tested .box size .cells) (each-at (λ r. Each (λ i. i < m) (named r)) noRecord records (λ k l. tested .names k l .cells))
 
   -- under another limit that is allowed they are let pass too
   pub tested-limit : (other : ℕ) → 1 ≤ other → other ≤ 65535 → testLists width other m n cells records ≡ Done

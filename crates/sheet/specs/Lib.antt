@@ -5,13 +5,3 @@ pub mod Boxes
 pub mod Cells
 pub mod Sheets
 pub mod Replies
-pub mod Runs
-pub mod Consistency
-pub mod Outcomes
-pub mod RecordSteps
-pub mod Loops
-pub mod Narrowings
-pub mod Loading
-pub mod Lists
-pub mod Calls
-pub mod Planning

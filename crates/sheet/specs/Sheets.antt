@@ -1,4 +1,4 @@
--- The kept sheet: what is in use, its one written form, its test in the order of lists, and the whole answers of opening and adding. Assumes nothing.
+-- The kept sheet: what is in use, its one written form, its test in the order of lists, and the whole answers of opening, accepting and adding. Assumes nothing.
 use mathlib.Core.Path.{_≡_}
 use mathlib.Core.Bool.{Bool, cond}
 use mathlib.Core.List.{List, [], _∷_, _++_, map}
@@ -119,6 +119,10 @@ testLists width limit cellCount recordCount cells records =
     (andThen (firstFault (cellFault width) 0 cells)
     (firstFault (recordFault cellCount) 0 records))))
 
+-- the test of two lists, whose counts are their lengths
+abbrev pub testOfLists : ℕ → ℕ → List Interval → List Record → Answer
+testOfLists width limit cells records = testLists width limit (length cells) (length records) cells records
+
 -- the test of a kept sheet
 abbrev pub testOf : Sheet → Answer
 testOf s = testLists (s .width) (s .limit) (s .«cell_count») (s .«record_count») (usedCells s) (usedRecords s)
@@ -128,6 +132,10 @@ pub record Sound (s : Sheet) : Type 0 where
   pub cells-long : length (s .cells) ≡ 64
   pub records-long : length (s .records) ≡ 128
   pub passes : testOf s ≡ Done
+
+-- ---- accepting a sheet that is handed in: its test, then its written form
+unfoldable pub acceptOf : Sheet → Kept
+acceptOf s = keptBy (testOf s) s (tidied s)
 
 -- ---- adding
 -- the sheet's own test, then the fault's number, then 10 where there is no room; place 0 for what is being added

@@ -31,14 +31,14 @@ pub enum Answer {
     Refused(Refusal),
 }
 
-// The sheet after a call, with its answer. A refused addition leaves the sheet as it came; a refused opening or text gives the blank one.
+// The sheet after a call, with its answer. A refused addition, and a refused sheet that is handed in, leave it as it came; a refused opening or text gives the blank one.
 pub struct Kept {
     pub sheet: Sheet,
     pub answer: Answer,
 }
 
-// A sheet with nothing in use, every place zero.
-pub(crate) fn blank_sheet(width: u64, limit: u64) -> Sheet
+// A sheet with nothing in use, every place zero; the width and the limit are not tested.
+pub fn blank_sheet(width: u64, limit: u64) -> Sheet
     ensures { λ r. ⌜ r ≡ blank width limit ⌝ }
 {
     let cell = Interval { low: 0, high: 0 };

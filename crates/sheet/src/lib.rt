@@ -1,10 +1,7 @@
-// Sheets of cells and records over them: kept, added to, tested and narrowed together; and lent lists, narrowed in place. Rests on the contracts of the crates `arith` and `machine`.
+// Kept sheets of cells and records over them: opened, added to and accepted. Rests on the contracts of the crate `arith`.
+pub mod accepting;
 pub mod adding;
 pub mod fault;
 pub mod kept;
-pub mod lent;
-pub mod narrowing;
-pub mod passes;
-mod step;
 mod testing;
 mod tidying;

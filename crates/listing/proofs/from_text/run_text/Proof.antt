@@ -17,11 +17,11 @@ enum-known-answer c = c .match .keys2
 
 returns : tie.Need-returns
 unfolding runOf
-returns c = rw (← c .before .before .before .before .read .ensures .0, c .before .enum-told .given .1) (c .narrow-sheet .ensures .answer)
+returns c = rw (← c .before .before .before .before .read .ensures .answer, c .before .enum-told .given .1) (c .narrow-sheet .ensures .answer)
 
 returns-2 : tie.Need-returns-2
 unfolding runOf
-returns-2 c = rw (← c .before .before .before .before .read .ensures .0, c .before .answer .given .1)
+returns-2 c = rw (← c .before .before .before .before .read .ensures .answer, c .before .answer .given .1)
 
 pub run-text-spec : {M : Type 1} → statement M
 run-text-spec =

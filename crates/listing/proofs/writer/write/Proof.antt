@@ -4,9 +4,9 @@ use types.Run.{OneOf}
 use denote.Enum.Declared.{tagOf}
 use mathlib.Core.List.{[], _∷_}
 use Rattle.arith.specs.declared.refusal.Refusal.{Refusal}
-use Rattle.sheet.proofs.passes.Outcome as T
-use Rattle.sheet.specs.declared.passes.Outcome.{Outcome}
-use Rattle.sheet.specs.declared.passes.Outcome.the-variants.{Settled, NoTriple, Stopped, Refused}
+use Rattle.propagation.proofs.passes.Outcome as T
+use Rattle.propagation.specs.declared.passes.Outcome.{Outcome}
+use Rattle.propagation.specs.declared.passes.Outcome.the-variants.{Settled, NoTriple, Stopped, Refused}
 use Rattle.listing.specs.declared.writer.Written.the-variants as Written
 use mathlib.Core.Path.{_≡_, refl}
 use Rattle.listing.proofs.Delivering.{run-written}

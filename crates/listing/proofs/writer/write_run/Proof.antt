@@ -1,5 +1,9 @@
 -- `listing::writer::write_run` meets its contract: what the local array holds at its start is the listing. Assumes nothing.
-use mathlib.Core.Path.{_∙_}
+use mathlib.Core.Path.{ap, _∙_}
+use mathlib.Core.List.{List}
+use Prim.Native.Nat.{ℕ}
+use denote.Ref.{now}
+use Rattle.listing.specs.Buffers.{sizeIn, storedIn}
 use Rattle.listing.proofs.Storing.{front}
 use borrow.Author.Needs.{needs}
 use Rattle.listing.proofs.writer.write_run.Statement.{statement}
@@ -21,7 +25,12 @@ same-length : tie.Need-same-length
 same-length c = search needs
 
 returns : tie.Need-returns
-returns c = let e = front (c .before .before .before .before .before .before .put-lines .ensures .0) (c .before .before .before .before .before .before .put-lines .ensures .1) in let w = c .before .before .deliver .ensures in (w .0 ∙ rw e, w .1 ∙ rw e)
+returns c =
+    let lines = c .before .before .before .before .before .before in
+    let e = front (lines .put-lines .ensures .0) (lines .put-lines .ensures .1) in
+    let w = c .before .before .deliver .ensures in
+    let out = now (lines .before .before .before .before .before .args .out) in
+    (w .0 ∙ ap (λ (l : List ℕ). sizeIn l out) e, w .1 ∙ ap (λ (l : List ℕ). storedIn l out) e)
 
 pub write-run-spec : {M : Type 1} → statement M
 write-run-spec =

@@ -10,6 +10,9 @@ Inv-loop text n i₀ t4 t5 i = i ≤ n
 abbrev μ-loop : tie.MeasureT-loop
 μ-loop text n i₀ t4 t5 i = n - i
 
+show-first-requires : tie.Need-show-first-requires Inv-loop μ-loop
+show-first-requires c κs = tt
+
 loop-holds : tie.Need-loop-holds Inv-loop μ-loop
 loop-holds c = search needs
 
@@ -55,6 +58,7 @@ show-records-spec =
     (tie.spec
     Inv-loop
     μ-loop
+    show-first-requires
     loop-holds
     nth-requires
     put-step-requires

@@ -1,5 +1,5 @@
 -- `machine::shortcut::judge` meets its contract. Assumes nothing.
-use mathlib.Core.Path.{_≡_, sym, ap₂, _∙_}
+use mathlib.Core.Path.{_≡_, refl, sym, ap₂, _∙_}
 use mathlib.Core.Bool.{true, _&&_}
 use native.Mathlib.Nat.{le-refl}
 use borrow.Author.Needs.{needs}
@@ -92,17 +92,17 @@ passes-requires-2 : tie.Need-passes-requires-2
 passes-requires-2 c κs = let z = c .before .before .before .before .before .before .before .before .before .before .before .before in (z .pre .0 .second .summed .number, z .pre .2, z .pre .1)
 
 returns-5 : tie.Need-returns-5
-returns-5 c =
+returns-5 c = bounds (c .before .before .before .before .before .before .before .before)
+
+returns-6 : tie.Need-returns-6
+returns-6 c =
     let z = c .before .before .before .before .before .before .before .before .before .before .before .before .before .before in
     let w = z .args .wide in
     let F = machine w in
     let o = bounds (c .before .before .before .before .before .before .before .before) in
     passes-none F (sound-machine w) (z .args .x) (z .args .a) (z .args .b) (z .args .p) (z .args .q) (z .pre .0) (o .first) (o .second)
     (z .args .u) (z .args .q .sum) (ordinal F (z .args .q .high)) (ordinal F (z .args .q .low)) (z .pre .3) (z .pre .1) (record { low = o .x-order; high = le-refl _ }) (record { low = le-refl _; high = o .a-order })
-    (z .pre .0 .second .summed .is ∙ sum-comm (F .fraction) (F .exponent) (ordinal F (z .args .q .low)) (ordinal F (z .args .q .high))) (c .before .passes2 .ensures (c .if5 .taken))
-
-returns-6 : tie.Need-returns-6
-returns-6 c = bounds (c .before .before .before .before .before .before .before .before)
+    (z .pre .0 .second .summed .is ∙ sum-comm (F .fraction) (F .exponent) (ordinal F (z .args .q .low)) (ordinal F (z .args .q .high))) (c .before .passes2 .ensures (holds refl (c .if5 .left)))
 
 pub judge-spec : {M : Type 1} → statement M
 judge-spec =

@@ -36,10 +36,10 @@ parse-requires : tie.Need-parse-requires
 parse-requires c κs = tt
 
 add-t12 : tie.Need-add-t12
-add-t12 c = omega (arith, simp length-drop at (ap length (c .before .before .before .before .rest .ensures)))
+add-t12 c = omega (arith, simp length-drop at (ap length (c .before .before .before .before .rest .ensures .holds)))
 
 add-t13 : tie.Need-add-t13
-add-t13 c = omega (arith, simp length-drop at (ap length (c .before .before .before .before .rest .ensures)))
+add-t13 c = omega (arith, simp length-drop at (ap length (c .before .before .before .before .rest .ensures .holds)))
 
 line-after-requires : tie.Need-line-after-requires
 line-after-requires c κs = tt
@@ -49,25 +49,25 @@ admit-requires c κs = tt
 
 returns-2 : tie.Need-returns-2
 unfolding nextOf before
-returns-2 c = tells (c .before .before .before .before .before .before .before .before .before) (rw (le-ltb _ _ (c .before .before .before .before .before .before .before .if1 .left), ← c .before .before .before .before .before .before .rest .ensures, ← c .before .before .before .before .before .find .ensures .0, lt-ltb _ _ (c .before .before .before .before .if2 .taken), ← c .before .before .parse .ensures, ← c .before .line-after .ensures) (c .admit .ensures))
+returns-2 c = tells (c .before .before .before .before .before .before .before .before .before) (rw (le-ltb _ _ (c .before .before .before .before .before .before .before .if1 .left), ← c .before .before .before .before .before .before .rest .ensures .holds, ← c .before .before .before .before .before .find .ensures .0, lt-ltb _ _ (c .before .before .before .before .if2 .taken), ← c .before .before .parse .ensures, ← c .before .line-after .ensures) (c .admit .ensures))
 
 refuse-at-requires-2 : tie.Need-refuse-at-requires-2
 refuse-at-requires-2 c κs = tt
 
 returns-3 : tie.Need-returns-3
 unfolding nextOf before
-returns-3 c = tells (c .before .before .before .before .before .before .before) (rw (le-ltb _ _ (c .before .before .before .before .before .if1 .left), ← c .before .before .before .before .rest .ensures, ← c .before .before .before .find .ensures .0, le-ltb _ _ (c .before .before .if2 .left), ne-eqb _ _ (c .before .if3 .taken)) (c .refuse-at2 .ensures))
+returns-3 c = tells (c .before .before .before .before .before .before .before) (rw (le-ltb _ _ (c .before .before .before .before .before .if1 .left), ← c .before .before .before .before .rest .ensures .holds, ← c .before .before .before .find .ensures .0, le-ltb _ _ (c .before .before .if2 .left), ne-eqb _ _ (c .before .if3 .taken)) (c .refuse-at2 .ensures))
 
 refuse-at-requires-3 : tie.Need-refuse-at-requires-3
 refuse-at-requires-3 c κs = tt
 
 returns-4 : tie.Need-returns-4
 unfolding nextOf before
-returns-4 c = tells (c .before .before .before .before .before .before .before .before) (rw (le-ltb _ _ (c .before .before .before .before .before .before .if1 .left), ← c .before .before .before .before .before .rest .ensures, ← c .before .before .before .before .find .ensures .0, le-ltb _ _ (c .before .before .before .if2 .left), eq-eqb _ _ (c .before .before .if3 .left), eq-eqb _ _ (c .before .if4 .taken)) (c .refuse-at3 .ensures))
+returns-4 c = tells (c .before .before .before .before .before .before .before .before) (rw (le-ltb _ _ (c .before .before .before .before .before .before .if1 .left), ← c .before .before .before .before .before .rest .ensures .holds, ← c .before .before .before .before .find .ensures .0, le-ltb _ _ (c .before .before .before .if2 .left), eq-eqb _ _ (c .before .before .if3 .left), eq-eqb _ _ (c .before .if4 .taken)) (c .refuse-at3 .ensures))
 
 returns-5 : tie.Need-returns-5
 unfolding nextOf before
-returns-5 c = tells (c .before .before .before .before .before .before .before) (rw (le-ltb _ _ (c .before .before .before .before .before .if1 .left), ← c .before .before .before .before .rest .ensures, ← c .before .before .before .find .ensures .0, le-ltb _ _ (c .before .before .if2 .left), eq-eqb _ _ (c .before .if3 .left), ne-eqb _ _ (c .if4 .left)))
+returns-5 c = tells (c .before .before .before .before .before .before .before) (rw (le-ltb _ _ (c .before .before .before .before .before .if1 .left), ← c .before .before .before .before .rest .ensures .holds, ← c .before .before .before .find .ensures .0, le-ltb _ _ (c .before .before .if2 .left), eq-eqb _ _ (c .before .if3 .left), ne-eqb _ _ (c .if4 .left)))
 
 pub next-spec : {M : Type 1} → statement M
 next-spec =

@@ -1,8 +1,11 @@
--- `reader::line::pair_in` meets its contract: its needs in the order of the code. Assumes nothing.
+-- `reader::line::pair_in` meets its contract. Assumes nothing.
 use Rattle.reader.specs.Lines.{pairIn}
 use Rattle.reader.proofs.line.pair_in.Statement.{statement}
 use Rattle.reader.proofs.line.pair_in.Tie as tie
 
-pub pair-in-spec : {M : Type 1} → statement M
+returns : tie.Need-returns
 unfolding pairIn
-pair-in-spec = tie.close (tie.spec (λ c κs. tt) (λ c κs. tt) (λ c κs. tt) (λ c κs. tt) (λ c κs. tt) (λ c. cc))
+returns c = rw (← c .before .before .before .before .before2 .ensures, ← c .before .before .before .numeral .ensures, ← c .before .before .after .ensures, ← c .before .numeral2 .ensures) (c .pair-from .ensures)
+
+pub pair-in-spec : {M : Type 1} → statement M
+pair-in-spec = tie.close (tie.spec (λ c κs. tt) (λ c κs. tt) (λ c κs. tt) (λ c κs. tt) (λ c κs. tt) returns)

@@ -3,7 +3,7 @@ use native.Mathlib.Nat.{pow-zero}
 use Rattle.reader.proofs.Digits.{value-on, value-off, value-end, digit-below, digit-fits}
 use lib.ListN.{length, drop}
 use Prim.Native.Nat.{_-_, _^_, _≤_, _<_}
-use mathlib.Core.Path.{_≡_, refl}
+use mathlib.Core.Path.{_≡_, refl, sym, _∙_}
 use Rattle.reader.specs.Numbers.{valueFrom}
 use borrow.Author.Needs.{needs}
 use native.Mathlib.Omega.{arith}
@@ -26,7 +26,7 @@ digit-requires : tie.Need-digit-requires Inv-loop μ-loop
 digit-requires c κs = tt
 
 returns : tie.Need-returns Inv-loop μ-loop
-returns c = let l = c .before .before .before .before in let a = l .before .before .args in cc (value-off (a .base) (l .loop .v) (a .f .now) (l .loop .i) (omega arith) (omega arith))
+returns c = let l = c .before .before .before .before in let a = l .before .before .args in sym (l .loop .inv .1 .1 ∙ value-off (a .base) (l .loop .v) (a .f .now) (l .loop .i) (omega arith) (omega arith))
 
 mul-v : tie.Need-mul-v Inv-loop μ-loop
 mul-v c = let l = c .before .before .before .before in let a = l .before .before .args in omega (arith, digit-fits (a .base) (l .loop .v) (c .before .digit .result) (l .loop .i) (length (a .f .now)) (omega arith) (omega arith) (omega arith) (omega arith))
@@ -41,10 +41,10 @@ loop-less : tie.Need-loop-less Inv-loop μ-loop
 loop-less c = search needs
 
 loop-again : tie.Need-loop-again Inv-loop μ-loop
-loop-again c = let l = c .before .before .before .before in let a = l .before .before .args in (omega arith, (digit-below (a .base) (l .loop .v) (c .before .digit .result) (l .loop .i) (omega arith) (omega arith), cc (value-on (a .base) (l .loop .v) (a .f .now) (l .loop .i) (omega arith) (omega arith))))
+loop-again c = let l = c .before .before .before .before in let a = l .before .before .args in (omega arith, (digit-below (a .base) (l .loop .v) (c .before .digit .result) (l .loop .i) (omega arith) (omega arith), l .loop .inv .1 .1 ∙ value-on (a .base) (l .loop .v) (a .f .now) (l .loop .i) (omega arith) (omega arith) ∙ rw (← c .before .digit .ensures .0)))
 
 returns-2 : tie.Need-returns-2 Inv-loop μ-loop
-returns-2 c = let l = c .before in let a = l .before .before .args in cc (value-end (a .base) (l .loop .v) (a .f .now) (l .loop .i) (omega arith))
+returns-2 c = let l = c .before in let a = l .before .before .args in sym (l .loop .inv .1 .1 ∙ value-end (a .base) (l .loop .v) (a .f .now) (l .loop .i) (omega arith))
 
 pub value-spec : {M : Type 1} → statement M
 value-spec =

@@ -35,7 +35,7 @@ use denote.Triple.Table.{entered, cited}
 use denote.Triple.Walked.{says, Stays, stay-none, stay-none-slice, walkOf, goes-none, goes-none-slice, Walks, ends-at, walked, walk-meets}
 use denote.Exit.{yes}
 use Rattle.arith.proofs.Replies.{told-too}
-use Rattle.sheet.proofs.Walks.{calls-fixed, calls-is}
+use Rattle.walks.proofs.Walks.{calls-fixed, calls-is}
 use Rattle.reader.specs.Steps.{nextOf, afterOf}
 use Rattle.reader.specs.Replies.{stepTold, Tells}
 use Rattle.reader.specs.declared.cursor.Step.{Step}

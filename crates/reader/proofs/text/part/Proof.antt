@@ -34,8 +34,9 @@ use denote.Triple.Spec.{Meets, tripleOf}
 use denote.Triple.Table.{entered, cited}
 use denote.Triple.Walked.{says, Stays, stay-none, stay-none-slice, walkOf, goes-none, goes-none-slice, Walks, ends-at, walked, walk-meets}
 use denote.Exit.{yes}
-use Rattle.sheet.proofs.Walks.{calls-said, calls-is}
-use Rattle.reader.specs.Steps.{recordAt}
+use Rattle.walks.proofs.Walks.{calls-said, calls-is}
+use Rattle.reader.specs.Bytes.{PartOf}
+use Rattle.reader.specs.Steps.{recordAt, recordStart}
 use Rattle.reader.proofs.Made.{val, Text, at, place, reader, Skip, to-skip, goes-skip, shut}
 use Rattle.reader.proofs.cursor.Cursor as K
 use Rattle.reader.proofs.cursor.Cursor.Laws as K′
@@ -62,8 +63,9 @@ module _ {M : Type 1} (𝓤 : URA M) (H : Heap 𝓤) (A : Atoms 𝓤) (mem : Mem
   RecordOf = tripleOf 𝓤 H A rec.signature (rec.spec 𝓤 H A mem run)
 
 module _ {M : Type 1} (𝓤 : URA M) (H : Heap 𝓤) (A : Atoms 𝓤) (W : Given 𝓤 H A) (mem : Memory → SProp 𝓤) (run : Routine → Fun 𝓤) (κ : Lft) (q : Share) (s : RefT (List ℕ)) (n : ℕ) where
-  abbrev found : List ℕ
-  found = recordAt (now s) (place s n)
+  -- the part that is found
+  abbrev Found : RefT (List ℕ) → Type 0
+  Found = PartOf s (recordStart (now s) (place s n)) (recordAt (now s) (place s n))
 
   abbrev Post : Val → SProp 𝓤
   Post = walkOf 𝓤 H A part.ended stayed (part.clauses 𝓤 H A mem run) .post (((κ, tt), (q, tt), tt, (s, (n, tt)), at s n), tt)
@@ -75,7 +77,7 @@ module _ {M : Type 1} (𝓤 : URA M) (H : Heap 𝓤) (A : Atoms 𝓤) (W : Given
   abbrev to-record : RecordOf 𝓤 H A mem run .Ghost
   to-record = (((κ, tt), (q, tt), tt, (reader s n, tt), (T′.lowered (reader s n) ∷ [], tt)), tt)
 
-  exits : n < 2 ^ 16 → (t : RefT (List ℕ)) (u : Val) → now t ≡ found → ent 𝓤 (⋆ 𝓤 H A (‵ (Sl .own t (u ∷ [])) ∷ (‵ (flft κ q) ⊛ ‵ ftrue) ∷ ‵ (Text κ s) ∷ [])) (Post u)
+  exits : n < 2 ^ 16 → (t : RefT (List ℕ)) (u : Val) → Found t → ent 𝓤 (⋆ 𝓤 H A (‵ (Sl .own t (u ∷ [])) ∷ (‵ (flft κ q) ⊛ ‵ ftrue) ∷ ‵ (Text κ s) ∷ [])) (Post u)
   exits g t u e =
       qed W (‵ (Sl .own t (u ∷ [])) ∷ (‵ (flft κ q) ⊛ ‵ ftrue) ∷ ‵ (Text κ s) ∷ []) ∵
       suffices ! _ (ends-at 𝓤 H A part.ended stayed (part.clauses 𝓤 H A mem run) W (((κ, tt), (q, tt), tt, (s, (n, tt)), at s n), tt) u t (tt, (tt, tt)) (tt, (tt, tt))) $ says ! e $
@@ -92,7 +94,7 @@ module _ {M : Type 1} (𝓤 : URA M) (H : Heap 𝓤) (A : Atoms 𝓤) (W : Given
         land ! (from ! (stop !)) (init ! 4 refl (LL.lawful K.the-type K′.the-laws 𝓤 H A W .typed (place s n) _ is .0)) $
         assigns ! (agg ! (and-then ! (load ! (from ! (stop !)) (look ! 8 refl)) (and-then ! (load ! (from ! (stop !)) (look ! 4 refl)) (no-more !)))) (from ! (stop !)) (init ! 2 refl (tt, (shr-slice-lawful 𝓤 H A W (named 0) κ u8 .typed s (val s ∷ []) p .0 .1, (LL.lawful K.the-type K′.the-laws 𝓤 H A W .typed (place s n) _ is .0 .1, tt)))) $
         use2 W (raw (RecordOf 𝓤 H A mem run .pre to-record) ⊛ ‵ (Text κ s)) (shut 𝓤 H A W mem run κ q s n is) $ split ! $
-        calls-said ! fm rec.ended (rec.clauses 𝓤 H A mem run) known-record to-record (λ t. now t ≡ found) (λ t e. id⊢ 𝓤 _) (and-then ! (load ! (from ! (stop !)) (look ! 2 refl)) (no-more !)) (λ t u e is′.
+        calls-said ! fm rec.ended (rec.clauses 𝓤 H A mem run) known-record to-record Found (λ t e. id⊢ 𝓤 _) (and-then ! (load ! (from ! (stop !)) (look ! 2 refl)) (no-more !)) (λ t u e is′.
         -- [the result; the token; what s owns; _4; …; _3; …; _2; …; _1; …; room for _0; …]
         land ! (from ! (stop !)) (init ! 11 refl (shr-slice-lawful 𝓤 H A W (named 0) κ u8 .typed t _ is′ .0)) $
         returns ! (look ! 11 refl) $ forget ! 3 refl $ forget ! 5 refl $ forget ! 7 refl $ forget ! 9 refl $ forget ! 11 refl $

@@ -9,7 +9,7 @@ use Rattle.sheet.specs.declared.kept.Answer.{Answer}
 use Rattle.sheet.specs.Cells.{canonicalCell}
 use Rattle.sheet.specs.Faults.{cellFault}
 use Rattle.sheet.specs.Sheets.{testOf, tidied, addTest, withCell, addCellOf}
-use Rattle.sheet.proofs.Answers.{Admitted, admitted, add-kept, add-new}
+use Rattle.sheet.proofs.Answers.{Admitted, admitted, refused-old, done-new}
 use Rattle.sheet.proofs.Replies.{add-cell-keeps}
 use Rattle.sheet.proofs.adding.add_cell.Statement.{statement}
 use Rattle.sheet.proofs.adding.add_cell.Tie as tie
@@ -40,14 +40,14 @@ unfolding addCellOf
 returns c =
     let g = c .before .before .before .before .before .args in
     let s = g .sheet in
-    add-cell-keeps s (g .cell) (add-kept s (withCell (tidied s) (canonicalCell (s .width) (g .cell))) _ _ (answered (c .before .before)) _ (c .enum-told .given .1))
+    add-cell-keeps s (g .cell) (refused-old s (withCell (tidied s) (canonicalCell (s .width) (g .cell))) _ _ (answered (c .before .before)) _ (c .enum-told .given .1))
 
 returns-2 : tie.Need-returns-2
 unfolding addCellOf tidied
 returns-2 c =
     let g = c .before .before .before .before .before .before .before .args in
     let s = g .sheet in
-    add-cell-keeps s (g .cell) (rw (c .before .tidy .ensures, c .write-cell .ensures) (add-new s (withCell (tidied s) (canonicalCell (s .width) (g .cell))) _ _ (answered (c .before .before .before .before)) (c .before .before .enum-told2 .given .1)))
+    add-cell-keeps s (g .cell) (rw (c .before .tidy .ensures, c .write-cell .ensures) (done-new s (withCell (tidied s) (canonicalCell (s .width) (g .cell))) _ _ (answered (c .before .before .before .before)) (c .before .before .enum-told2 .given .1)))
 
 pub add-cell-spec : {M : Type 1} → statement M
 add-cell-spec =

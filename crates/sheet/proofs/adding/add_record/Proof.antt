@@ -8,7 +8,7 @@ use borrow.Author.Tests.{ltb-true}
 use Rattle.sheet.specs.declared.kept.Answer.{Answer}
 use Rattle.sheet.specs.Faults.{recordFault}
 use Rattle.sheet.specs.Sheets.{testOf, tidied, addTest, withRecord, addRecordOf}
-use Rattle.sheet.proofs.Answers.{Admitted, admitted, add-kept, add-new}
+use Rattle.sheet.proofs.Answers.{Admitted, admitted, refused-old, done-new}
 use Rattle.sheet.proofs.Replies.{add-record-keeps}
 use Rattle.sheet.proofs.adding.add_record.Statement.{statement}
 use Rattle.sheet.proofs.adding.add_record.Tie as tie
@@ -39,14 +39,14 @@ unfolding addRecordOf
 returns c =
     let g = c .before .before .before .before .before .args in
     let s = g .sheet in
-    add-record-keeps s (g .«record») (add-kept s (withRecord (tidied s) (g .«record»)) _ _ (answered (c .before .before)) _ (c .enum-told .given .1))
+    add-record-keeps s (g .«record») (refused-old s (withRecord (tidied s) (g .«record»)) _ _ (answered (c .before .before)) _ (c .enum-told .given .1))
 
 returns-2 : tie.Need-returns-2
 unfolding addRecordOf tidied
 returns-2 c =
     let g = c .before .before .before .before .before .before .args in
     let s = g .sheet in
-    add-record-keeps s (g .«record») (rw (c .tidy .ensures) (add-new s (withRecord (tidied s) (g .«record»)) _ _ (answered (c .before .before .before)) (c .before .enum-told2 .given .1)))
+    add-record-keeps s (g .«record») (rw (c .tidy .ensures) (done-new s (withRecord (tidied s) (g .«record»)) _ _ (answered (c .before .before .before)) (c .before .enum-told2 .given .1)))
 
 pub add-record-spec : {M : Type 1} → statement M
 add-record-spec =

@@ -3,6 +3,8 @@
 use Rattle.sheet.specs.Faults.{headFault}
 use borrow.Author.Tests.{lt-ltb, le-ltb, not-true, not-false}
 use mathlib.Core.Path.{sym, _∙_}
+use Prim.Native.Nat.{_<_}
+use native.Mathlib.Omega.{arith}
 use Rattle.sheet.proofs.fault.head_fault.Statement.{statement}
 use Rattle.sheet.proofs.fault.head_fault.Tie as tie
 
@@ -15,7 +17,9 @@ returns c = simp (sym (c .before .known .ensures) ∙ not-true _ (c .if1 .taken)
 
 returns-2 : tie.Need-returns-2
 unfolding headFault
-returns-2 c = simp (sym (c .before .before .known .ensures) ∙ not-false _ (c .before .if1 .left), lt-ltb _ _ (c .if2 .taken))
+returns-2 c =
+    let few : c .before .before .before .args .limit < 1 = omega arith in
+    simp (sym (c .before .before .known .ensures) ∙ not-false _ (c .before .if1 .left), lt-ltb _ _ few)
 
 returns-3 : tie.Need-returns-3
 unfolding headFault

@@ -35,7 +35,7 @@ use denote.Triple.Spec.{Meets, tripleOf}
 use denote.Triple.Table.{entered, cited}
 use denote.Triple.Walked.{says, Stays, stay-none-slice, walkOf, goes-none-slice, Walks, ends-at, walked, walk-meets}
 use denote.Exit.{yes}
-use Rattle.sheet.proofs.Walks.{calls-is}
+use Rattle.walks.proofs.Walks.{calls-is}
 use Rattle.reader.specs.declared.text.Reader.{Reader}
 use Rattle.reader.specs.Steps.{start}
 use Rattle.reader.proofs.cursor.Cursor as K

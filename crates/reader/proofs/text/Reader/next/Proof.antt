@@ -32,7 +32,7 @@ use denote.Triple.Spec.{Meets, tripleOf}
 use denote.Triple.Table.{entered, cited}
 use denote.Triple.Walked.{says, Stays, stay-none, walkOf, goes-none, Walks, ends-at, walked, walk-meets}
 use denote.Exit.{yes}
-use Rattle.sheet.proofs.Walks.{calls-fixed}
+use Rattle.walks.proofs.Walks.{calls-fixed}
 use Rattle.reader.specs.Steps.{advanceOf}
 use Rattle.reader.specs.Replies.{Tells}
 use Rattle.reader.specs.declared.text.Reader.{Reader}

@@ -1,0 +1,77 @@
+//! The forward sum at both widths against the hardware's own addition, on pairs of each kind in both orders, and on garbage.
+//!
+//! Compared are the pattern, with the hardware's -0 as 0; the mark, 1 where the hardware lost something and else 0; refusal 9
+//! exactly where the hardware's sum is infinite; refusals 1 and 2; and that a refusal leaves both words as they were. Prints a
+//! line for each kind and width; status 1 if anything differed, or if what a kind is made for was not met.
+
+#[path = "../common/arguments.rs"]
+mod arguments;
+#[allow(dead_code)]
+#[path = "../common/cases.rs"]
+mod cases;
+#[path = "../common/exports.rs"]
+mod exports;
+#[path = "../common/floats.rs"]
+mod floats;
+#[path = "../common/words.rs"]
+mod words;
+
+mod garbage;
+mod hardware;
+mod kinds;
+mod tally;
+
+use floats::{Binary32, Binary64};
+use hardware::Hardware;
+use kinds::Kind;
+use tally::Tally;
+use words::Words;
+
+const PAIRS: u64 = 1_000_000;
+const GARBAGE: usize = 1_000_000;
+
+/// What the words hold before each call.
+pub const BEFORE: [u64; 2] = [0xA5A5_A5A5_A5A5_A5A5, 0x5A5A_5A5A_5A5A_5A5A];
+
+/// The library's answer: the number, and the words after the call.
+pub fn library(width: u64, [x, a]: [u64; 2]) -> (u64, [u64; 2]) {
+    let mut out = BEFORE;
+    (exports::add(width, x, a, &mut out), out)
+}
+
+/// One pair in both orders.
+fn compare<W: Hardware>(kind: &Kind, tally: &mut Tally, [x, a]: [u64; 2]) {
+    let sum = hardware::sum::<W>(x, a);
+    let due = hardware::answer::<W>(&sum, BEFORE);
+    let got = [library(W::BITS, [x, a]), library(W::BITS, [a, x])];
+    let agrees = got == [due; 2];
+    if !agrees && tally.differed == 0 {
+        eprintln!("sums: width {}, {}: {x:X} and {a:X}: due {due:X?}, got {got:X?}", W::BITS, kind.name);
+    }
+    tally.count::<W>(&sum, agrees);
+}
+
+/// A line for a kind; whether it passed.
+fn passed<W: Hardware>(words: &mut Words, kind: &Kind) -> bool {
+    let mut tally = Tally::default();
+    for _ in 0..PAIRS {
+        compare::<W>(kind, &mut tally, (kind.pair)(words));
+    }
+    println!("width {}, {}: {tally}", W::BITS, kind.name);
+    let met = (kind.met)(&tally);
+    if !met {
+        eprintln!("sums: width {}, {}: what it is made for was not met", W::BITS, kind.name);
+    }
+    met && tally.differed == 0
+}
+
+/// Whether all kinds passed.
+fn width<W: Hardware>() -> bool {
+    let mut words = Words(0x9E37_79B9_7F4A_7C15);
+    kinds::all::<W>().iter().fold(true, |all, kind| passed::<W>(&mut words, kind) && all)
+}
+
+fn main() {
+    let all = [width::<Binary32>(), width::<Binary64>(), garbage::passed(GARBAGE)];
+    std::process::exit(if all == [true; 3] { 0 } else { 1 });
+}
