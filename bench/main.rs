@@ -3,12 +3,19 @@
 //! the library. Then the slowest narrowings and the longest run that were found, and how the cost grows: of a narrowing with the
 //! length of its intervals, of a run with its sums and passes.
 //!
-//! Usage: bench PROGRAM [EARLIER], the program `narrow` and an earlier build of it, beside which a pass of sums is timed too. All
-//! sides get the same input and must give the same answers. Each figure is the best of many rounds in which the sides take turns,
+//! Usage: bench PROGRAM [EARLIER], the program `narrow` and an earlier build of it, beside which a pass of sums is timed too; where
+//! the earlier build's libraries are linked (bench/run), sums and narrowings are timed beside theirs. All sides get the same
+//! input and must give the same answers. Each figure is the best of many rounds in which the sides take turns,
 //! but for the narrowings of a pass; the result buffers are not cleared between calls.
 
 #[path = "../tests/common/cases.rs"]
 mod cases;
+#[cfg(earlier)]
+#[path = "../target/bench/earlier_bindings.rs"]
+mod earlier_bindings;
+#[cfg(earlier)]
+#[path = "../target/bench/earlier_exports.rs"]
+mod earlier_exports;
 #[path = "../tests/common/ends.rs"]
 mod ends;
 #[path = "../tests/common/exports.rs"]
@@ -26,6 +33,7 @@ mod tazsmibor;
 mod words;
 
 mod baseline;
+mod earlier;
 mod passes;
 mod slowest;
 mod sums;
@@ -46,7 +54,7 @@ struct Amount {
 const FEW: Amount = Amount { cases: 2_000, rounds: 3_000 };
 const MANY: Amount = Amount { cases: 200_000, rounds: 30 };
 
-type Call = fn(u64, [u64; 6], &mut [u8]) -> u64;
+pub type Call = fn(u64, [u64; 6], &mut [u8]) -> u64;
 
 /// Both operands wide, b wide or about a sum.
 fn wide<W: Width>(words: &mut Words) -> [Range; 3] {
@@ -134,6 +142,22 @@ fn narrowing<W: Width>(mix: &str, amount: Amount, make: impl Fn(&mut Words) -> [
     );
     let what = format!("narrowing, width {}, {mix}, {} cases", W::BITS, amount.cases);
     report(&what, &[("in integers", exact), ("fast", fast), ("galloping search", baseline)]);
+    if let Some(earlier) = earlier::NARROW {
+        builds::<W>(&what, amount, &cases, earlier);
+    }
+}
+
+/// Both entries beside those of an earlier build.
+fn builds<W: Width>(what: &str, amount: Amount, cases: &[[u64; 6]], earlier: [Call; 2]) {
+    let entries = [("in integers", tazsmibor::entry as Call), ("fast", tazsmibor::entry_fast)];
+    for ((name, present), past) in entries.into_iter().zip(earlier) {
+        for ends in cases {
+            assert_eq!(answer(present, W::BITS, *ends), answer(past, W::BITS, *ends), "{what}, {name}: the builds differ");
+        }
+        let [present, past] =
+            best(amount.rounds, [&mut || round(present, W::BITS, cases), &mut || round(past, W::BITS, cases)]);
+        report(&format!("{what}, {name}"), &[("this build", present), ("the earlier build", past)]);
+    }
 }
 
 /// The three mixes.

@@ -1,6 +1,7 @@
 //! Forward sums: the library's beside a plain software addition with guard, round and sticky bits.
 
 use crate::cases;
+use crate::earlier;
 use crate::exports;
 use crate::floats::Width;
 use crate::{best, report};
@@ -11,7 +12,7 @@ use std::time::Instant;
 const PAIRS: usize = 4_000;
 const ROUNDS: usize = 1_000;
 
-type Add = fn(u64, u64, u64, &mut [u64; 2]) -> u64;
+pub type Add = fn(u64, u64, u64, &mut [u64; 2]) -> u64;
 
 /// 0 with the pattern and the mark, or the refusal number.
 fn software_add(width: u64, x: u64, a: u64, out: &mut [u64; 2]) -> u64 {
@@ -82,14 +83,20 @@ pub fn sums<W: Width>() {
         [x, a].map(|p| W::pattern(p.clamp(-W::LARGEST, W::LARGEST)))
     };
     let pairs: Vec<[u64; 2]> = (0..PAIRS).map(&mut pair).collect();
-    for pair in &pairs {
-        assert_eq!(
-            answer(exports::add, W::BITS, *pair),
-            answer(software_add, W::BITS, *pair),
-            "the software addition answers otherwise"
-        );
-    }
+    let agreed = |name: &str, other: Add| {
+        for pair in &pairs {
+            assert_eq!(answer(exports::add, W::BITS, *pair), answer(other, W::BITS, *pair), "the {name} answers otherwise");
+        }
+    };
+    let what = format!("sum, width {}", W::BITS);
+    agreed("software addition", software_add);
     let [library, baseline] =
         best(ROUNDS, [&mut || round(exports::add, W::BITS, &pairs), &mut || round(software_add, W::BITS, &pairs)]);
-    report(&format!("sum, width {}", W::BITS), &[("library", library), ("software addition", baseline)]);
+    report(&what, &[("library", library), ("software addition", baseline)]);
+    if let Some(earlier) = earlier::ADD {
+        agreed("earlier build", earlier);
+        let [present, past] =
+            best(ROUNDS, [&mut || round(exports::add, W::BITS, &pairs), &mut || round(earlier, W::BITS, &pairs)]);
+        report(&what, &[("this build", present), ("the earlier build", past)]);
+    }
 }

@@ -1,8 +1,9 @@
 //! The forward sum at both widths against the hardware's own addition, on pairs of each kind in both orders, and on garbage.
 //!
 //! Compared are the pattern, with the hardware's -0 as 0; the mark, 1 where the hardware lost something and else 0; refusal 9
-//! exactly where the hardware's sum is infinite; refusals 1 and 2; and that a refusal leaves both words as they were. Prints a
-//! line for each kind and width; status 1 if anything differed, or if what a kind is made for was not met.
+//! exactly where the hardware's sum is infinite; refusals 1 and 2; and that a refusal leaves both words as they were. The sums that
+//! docs/ARITHMETIC.md works in figures are worked anew. Prints a line for each kind and width; status 1 if anything differed, or if
+//! what a kind is made for was not met.
 
 #[path = "../common/arguments.rs"]
 mod arguments;
@@ -16,6 +17,7 @@ mod floats;
 #[path = "../common/words.rs"]
 mod words;
 
+mod documented;
 mod garbage;
 mod hardware;
 mod kinds;
@@ -72,6 +74,6 @@ fn width<W: Hardware>() -> bool {
 }
 
 fn main() {
-    let all = [width::<Binary32>(), width::<Binary64>(), garbage::passed(GARBAGE)];
-    std::process::exit(if all == [true; 3] { 0 } else { 1 });
+    let all = [width::<Binary32>(), width::<Binary64>(), garbage::passed(GARBAGE), documented::passed()];
+    std::process::exit(if all == [true; 4] { 0 } else { 1 });
 }

@@ -13,12 +13,16 @@ use Rattle.ladder.specs.Ordinal.{above, below}
 use Rattle.ladder.proofs.Cases.{le-or-lt}
 use Rattle.ladder.proofs.Magnitude.{parts, magnitude-parts, magnitude-suc, magnitude-le, magnitude-lt, shift-le}
 use Rattle.ladder.proofs.Ordinals.{infinity-lt-sign, signed-value}
-use Rattle.arith.specs.declared.exact.Exact.{Exact}
+use Rattle.arith.specs.declared.sum.Exact.{Exact}
 use Rattle.arith.specs.declared.format.Format.{Format}
 use Rattle.arith.specs.Formats.{Sound, Finite}
 use Rattle.arith.specs.Exacts.{exactOf, sizeOf, Shaped}
 use Rattle.arith.specs.Thresholds.{doubledOf, Crosses}
-use Rattle.arith.proofs.Decoding.{pow-gap, size-is, large, low, shaped, apart, apart-comm, signed-up, signed-down, fromZero}
+use Rattle.arith.proofs.Decoding.{pow-gap, size-is, large, low, shaped, apart, apart-comm, signed-up, signed-down}
+
+-- how far an ordinal is from zero's
+abbrev fromZero : Format → ℕ → ℕ
+fromZero F r = (r - F .sign) + (F .sign - r)
 
 -- twice the midpoint of m and its upper neighbour
 abbrev middle : ℕ → ℕ → ℕ

@@ -1,24 +1,24 @@
--- Step 1 of the forward sum: magnitudes taken apart and the exact sum of two, with nothing lost. Rests on `ladder`'s Magnitude, Multiples and Ordinals.
-use mathlib.Core.Path.{_≡_, refl, sym, ap, ap₂, _∙_, subst}
+-- Step 1 of the forward sum: sizes taken apart and the exact sum of two floats, with nothing lost. Rests on `ladder`'s Magnitude, Multiples and Ordinals.
+use mathlib.Core.Path.{_≡_, refl, sym, ap, ap₂, _∙_}
 use mathlib.Core.Logic.{inl, inr}
 use mathlib.Core.Bool.{Bool, true, false, not, cond, Bool·beq}
 use Prim.Native.Nat.{ℕ, _+_, _-_, _*_, _/_, _^_, _≤_, _<_}
 use native.Mathlib.Nat.{div-mul-le-self, le-trans, le-of-mul-le-mul-right, mul-le-mul-left, mul-le-mul-right}
 use native.Mathlib.Omega.{arith}
 use lib.Pow.{pow-pos, pow-add}
-use lib.Dec.{ltb}
-use borrow.Author.Tests.{lt-ltb, le-ltb}
 use Rattle.ladder.specs.Magnitude.{magnitude, shift, significand}
 use Rattle.ladder.specs.Ordinal.{above, below}
-use Rattle.ladder.proofs.Cases.{le-or-lt}
 use Rattle.ladder.proofs.Magnitude.{parts, magnitude-parts, shift-le, magnitude-le}
 use Rattle.ladder.proofs.Multiples.{sub-mul}
-use Rattle.ladder.proofs.Ordinals.{infinity-lt-sign, signed-value}
-use Rattle.arith.specs.declared.exact.Parts.{Parts}
-use Rattle.arith.specs.declared.exact.Exact.{Exact}
+use Rattle.ladder.proofs.Ordinals.{signed-value}
+use Rattle.arith.specs.declared.sum.Scaled.{Scaled}
+use Rattle.arith.specs.declared.sum.Exact.{Exact}
 use Rattle.arith.specs.declared.format.Format.{Format}
-use Rattle.arith.specs.Formats.{Sound, Finite}
-use Rattle.arith.specs.Exacts.{partsOf, exactOf, sizeOf, Shaped, Low, Exactly}
+use Rattle.arith.specs.declared.sum.Signed.{Signed}
+use Rattle.arith.specs.Formats.{Sound}
+use Rattle.arith.specs.Exacts.{partsOf, exactOf, sizeOf, Shaped, Low}
+use Rattle.arith.specs.Steps.{FiniteSigned, Summands, ordinalAt, Exactly}
+use Rattle.arith.proofs.Formats.{infinity-lt}
 
 -- 2 ^ (j - i) times 2 ^ i
 pub pow-gap : (i j : ℕ) → i ≤ j → 2 ^ (j - i) * 2 ^ i ≡ 2 ^ j
@@ -83,62 +83,49 @@ signed-down false true A B h = omega arith
 signed-down false false A B h = omega arith
 
 -- ---- what `decode` and `combine` make
-pub decode-low : (f m d : ℕ) → d ≡ m / 2 ^ f → d ≡ 0 → record { significand = m; shift = 0 } ≡ partsOf f m
+pub decode-is : (f m d s u : ℕ) → d ≡ m / 2 ^ f → s ≡ d - 1 → u ≡ s * 2 ^ f → record { significand = m - u; shift = s } ≡ partsOf f m
 unfolding significand shift
-decode-low f m d e z =
-    let y : 0 ≡ m / 2 ^ f - 1 = omega arith in
-    let x : m ≡ m - (m / 2 ^ f - 1) * 2 ^ f = omega (arith, ap (λ (s : ℕ). s * 2 ^ f) y) in
-    ap₂ (λ (s t : ℕ). record { significand = s; shift = t }) x y
+decode-is f m d s u D S U =
+    let e : s ≡ m / 2 ^ f - 1 = omega arith in
+    ap₂ (λ (u s : ℕ). record { significand = m - u; shift = s }) (U ∙ ap (λ (s : ℕ). s * 2 ^ f) e) e
 
-pub decode-high : (f m d u : ℕ) → d ≡ m / 2 ^ f → u ≡ (d - 1) * 2 ^ f → record { significand = m - u; shift = d - 1 } ≡ partsOf f m
-unfolding significand shift
-decode-high f m d u e z =
-    ap (λ (s : ℕ). record { significand = m - s; shift = d - 1 }) z ∙ ap (λ (s : ℕ). record { significand = m - (s - 1) * 2 ^ f; shift = s - 1 }) e
+pub decode-under : (f m d s : ℕ) → d ≡ m / 2 ^ f → s ≡ d - 1 → s * 2 ^ f ≤ m
+decode-under f m d s D S = let l : s ≤ m / 2 ^ f = omega arith in omega (arith, mul-le-mul-right (2 ^ f) l, div-mul-le-self m (2 ^ f))
 
-pub decode-under : (f m d : ℕ) → d ≡ m / 2 ^ f → (d - 1) * 2 ^ f ≤ m
-decode-under f m d e = let l : d - 1 ≤ m / 2 ^ f = omega arith in omega (arith, mul-le-mul-right (2 ^ f) l, div-mul-le-self m (2 ^ f))
+pub gap-le : (f m n : ℕ) (p q : Scaled) → p ≡ partsOf f m → q ≡ partsOf f n → n ≤ m → q .shift ≤ p .shift
+gap-le f m n p q e g h = omega (arith, ap (λ (x : Scaled). x .shift) e, ap (λ (x : Scaled). x .shift) g, shift-le f m n h)
 
-pub gap-le : (f m n : ℕ) (p q : Parts) → p ≡ partsOf f m → q ≡ partsOf f n → n ≤ m → q .shift ≤ p .shift
-gap-le f m n p q e g h = omega (arith, ap (λ (x : Parts). x .shift) e, ap (λ (x : Parts). x .shift) g, shift-le f m n h)
+-- ---- the exact sum of two floats by their sign and m
+from-sign : (b : Bool) (s m : ℕ) → m ≤ s → cond b (s - m) (s + m) + cond b m 0 ≡ s + cond b 0 m
+from-sign true s m h = omega arith
+from-sign false s m h = omega arith
 
--- ---- the exact sum of two ordinals
--- how far an ordinal is from zero's
-abbrev pub fromZero : Format → ℕ → ℕ
-fromZero F r = (r - F .sign) + (F .sign - r)
-
-signs : (F : Format) → Sound F → (r : ℕ) → (above (F .fraction) (F .exponent) r ≡ cond (ltb r (F .sign)) 0 (magnitude (F .fraction) (fromZero F r))) × (below (F .fraction) (F .exponent) r ≡ cond (ltb r (F .sign)) (magnitude (F .fraction) (fromZero F r)) 0)
-signs F ok r = elim (le-or-lt (F .sign) r) [
-  | inl l ↦ simp (le-ltb _ _ l) (signed-value (F .fraction) (F .exponent) false r (fromZero F r) (omega (arith, ok .sign)))
-  | inr l ↦ simp (lt-ltb _ _ l) (signed-value (F .fraction) (F .exponent) true r (fromZero F r) (omega (arith, ok .sign)))
-]
+-- the units on either side of zero
+pub signed-units : (F : Format) → Sound F → (z : Signed) → z .m ≤ F .infinity
+    → (above (F .fraction) (F .exponent) (ordinalAt F z) ≡ cond (z .negative) 0 (magnitude (F .fraction) (z .m)))
+    × (below (F .fraction) (F .exponent) (ordinalAt F z) ≡ cond (z .negative) (magnitude (F .fraction) (z .m)) 0)
+signed-units F ok z h =
+    let l : z .m ≤ F .sign = omega (arith, infinity-lt F ok) in
+    signed-value (F .fraction) (F .exponent) (z .negative) (ordinalAt F z) (z .m) (from-sign (z .negative) (F .sign) (z .m) l ∙ ap (λ (s : ℕ). s + cond (z .negative) 0 (z .m)) (ok .sign))
 
 -- x is the larger one, so the sum has its sign
-module _ (F : Format) (x a : ℕ) (ok : Sound F) (X : Finite F x) (A : Finite F a) where
-  abbrev f : ℕ
-  f = F .fraction
-
-  abbrev t : ℕ
-  t = F .sign
-
-  exact-at : fromZero F a ≤ fromZero F x → Exactly F x a (exactOf f (ltb x t) (apart (ltb x t) (ltb a t)) (fromZero F x) (fromZero F a))
-  exact-at h =
-      let m = fromZero F x in
-      let n = fromZero F a in
-      let s = ltb x t in
-      let o = apart (ltb x t) (ltb a t) in
-      let p = signs F ok x in
-      let q = signs F ok a in
-      let high : m ≤ 2 ^ 63 = omega (arith, ok .sign, ok .infinity, ok .word, X .low, X .high, infinity-lt-sign f (F .exponent)) in
-      record {
-        up = ap (cond s 0) (size-exact f m n s o h) ∙ signed-up s (ltb a t) (magnitude f m) (magnitude f n) (magnitude-le f n m h) ∙ sym (ap₂ _-_ (ap₂ _+_ (p .0) (q .0)) (ap₂ _+_ (p .1) (q .1)));
-        down = ap (λ (z : ℕ). cond s z 0) (size-exact f m n s o h) ∙ signed-down s (ltb a t) (magnitude f m) (magnitude f n) (magnitude-le f n m h) ∙ sym (ap₂ _-_ (ap₂ _+_ (p .1) (q .1)) (ap₂ _+_ (p .0) (q .0)));
-        shaped = shaped f m n s o h high;
-        low = low f m n s o h high;
-      }
-
-  pub exact-first : (m n : ℕ) (e : Exact) → m ≡ fromZero F x → n ≡ fromZero F a → n ≤ m → e ≡ exactOf f (ltb x t) (apart (ltb x t) (ltb a t)) m n → Exactly F x a e
-  exact-first m n e M N h E =
-      subst (Exactly F x a) (sym (E ∙ ap₂ (exactOf f (ltb x t) (apart (ltb x t) (ltb a t))) M N)) (exact-at (omega arith))
+exact-first : (F : Format) (x a : Signed) → Summands FiniteSigned F x a → a .m ≤ x .m
+    → Exactly F (ordinalAt F x) (ordinalAt F a) (exactOf (F .fraction) (x .negative) (apart (x .negative) (a .negative)) (x .m) (a .m))
+exact-first F x a ok h =
+    let f = F .fraction in
+    let s = x .negative in
+    let o = apart s (a .negative) in
+    let p = signed-units F (ok .sound) x (omega (arith, ok .x-finite)) in
+    let q = signed-units F (ok .sound) a (omega (arith, ok .a-finite)) in
+    let le = magnitude-le f (a .m) (x .m) h in
+    let size = size-exact f (x .m) (a .m) s o h in
+    let high : x .m ≤ 2 ^ 63 = omega (arith, ok .x-finite, ok .sound .word, infinity-lt F (ok .sound)) in
+    record {
+      up = ap (cond s 0) size ∙ signed-up s (a .negative) (magnitude f (x .m)) (magnitude f (a .m)) le ∙ sym (ap₂ _-_ (ap₂ _+_ (p .0) (q .0)) (ap₂ _+_ (p .1) (q .1)));
+      down = ap (λ (z : ℕ). cond s z 0) size ∙ signed-down s (a .negative) (magnitude f (x .m)) (magnitude f (a .m)) le ∙ sym (ap₂ _-_ (ap₂ _+_ (p .1) (q .1)) (ap₂ _+_ (p .0) (q .0)));
+      shaped = shaped f (x .m) (a .m) s o h high;
+      low = low f (x .m) (a .m) s o h high;
+    }
 
 pub apart-comm : (s t : Bool) → apart s t ≡ apart t s
 apart-comm true true = refl
@@ -146,11 +133,15 @@ apart-comm true false = refl
 apart-comm false true = refl
 apart-comm false false = refl
 
-swapped : (F : Format) (x a : ℕ) (e : Exact) → Exactly F a x e → Exactly F x a e
-swapped F x a e h = record { up = h .up ∙ omega arith; down = h .down ∙ omega arith; shaped = h .shaped; low = h .low }
+swapped : (F : Format) (x a : ℕ) (t : Exact) → Exactly F a x t → Exactly F x a t
+swapped F x a t h = record { up = h .up ∙ omega arith; down = h .down ∙ omega arith; shaped = h .shaped; low = h .low }
 
-pub exact-second : (F : Format) (x a : ℕ) → Sound F → Finite F x → Finite F a → (m n : ℕ) (e : Exact) → m ≡ fromZero F x → n ≡ fromZero F a → m < n
-    → e ≡ exactOf (F .fraction) (ltb a (F .sign)) (apart (ltb x (F .sign)) (ltb a (F .sign))) n m → Exactly F x a e
-exact-second F x a ok X A m n e M N h E =
-    swapped F x a e
-    (exact-first F a x ok A X n m e N M (omega arith) (E ∙ ap (λ (b : Bool). exactOf (F .fraction) (ltb a (F .sign)) b n m) (apart-comm (ltb x (F .sign)) (ltb a (F .sign)))))
+-- what `exact_sum` makes
+module _ (F : Format) (x a : Signed) (t : Exact) (ok : Summands FiniteSigned F x a) where
+  pub exact-x : a .m ≤ x .m → t ≡ exactOf (F .fraction) (x .negative) (apart (x .negative) (a .negative)) (x .m) (a .m) → Exactly F (ordinalAt F x) (ordinalAt F a) t
+  exact-x h T = rw T (exact-first F x a ok h)
+
+  pub exact-a : x .m < a .m → t ≡ exactOf (F .fraction) (a .negative) (apart (x .negative) (a .negative)) (a .m) (x .m) → Exactly F (ordinalAt F x) (ordinalAt F a) t
+  exact-a h T =
+      let turned : Summands FiniteSigned F a x = record { sound = ok .sound; x-finite = ok .a-finite; a-finite = ok .x-finite } in
+      rw (T, apart-comm (x .negative) (a .negative)) (swapped F (ordinalAt F x) (ordinalAt F a) _ (exact-first F a x turned (omega arith)))

@@ -2,16 +2,15 @@
 use mathlib.Core.Path.{_≡_, refl, sym, ap, ap₂, _∙_}
 use mathlib.Core.Logic.{inl, inr}
 use mathlib.Core.Bool.{Bool, true, false, cond, _&&_, true≢false}
-use Prim.Native.Nat.{ℕ, _+_, _-_, _*_, _≤_, _<_}
+use Prim.Native.Nat.{ℕ, _+_, _-_, _*_, _^_, _≤_, _<_}
 use native.Mathlib.Omega.{arith}
 use lib.Dec.{eqb, ltb, lit≤}
 use borrow.Author.Tests.{lt-ltb, le-ltb, ltb-true}
 use Rattle.ladder.specs.Ordinal as L
 use Rattle.ladder.proofs.Cases.{le-or-lt}
-use Rattle.ladder.proofs.Ordinals.{infinity-lt-sign}
+use Rattle.ladder.proofs.Ordinals.{sign-is, infinity-lt-sign}
 use Rattle.arith.specs.declared.format.Format.{Format}
-use Rattle.arith.specs.Formats.{binary, formatOf, Sound, isFinite, ordinal, pattern, negated, Finite}
-use Rattle.arith.specs.Sums.{isFiniteOrdinal}
+use Rattle.arith.specs.Formats.{binary, formatOf, Sound, isFinite, ordinal, pattern, negated}
 
 -- a test of two parts
 pub both : (p q : Bool) → (p && q) ≡ true → (p ≡ true) × (q ≡ true)
@@ -30,6 +29,9 @@ sound width = go (eqb width 32)
 module _ (F : Format) (ok : Sound F) where
   pub infinity-lt : F .infinity < F .sign
   infinity-lt = omega (arith, ok .sign, ok .infinity, infinity-lt-sign (F .fraction) (F .exponent))
+
+  pub smallest-normal : F .sign - F .infinity ≡ 2 ^ F .fraction
+  smallest-normal = omega (arith, ok .sign, ok .infinity, sign-is (F .fraction) (F .exponent))
 
   -- ---- patterns
   finite-is : (p : ℕ) → isFinite F p ≡ cond (ltb p (F .sign)) (ltb p (F .infinity)) (ltb (p - F .sign) (F .infinity))
@@ -67,13 +69,3 @@ module _ (F : Format) (ok : Sound F) where
   pub negated-by : (p : ℕ) → cond (eqb p 0) 0 (cond (ltb p (F .sign)) (p + F .sign) (p - F .sign)) ≡ negated F p
   unfolding L.negated
   negated-by p = ap (λ (s : ℕ). cond (eqb p 0) 0 (cond (ltb p s) (p + s) (p - s))) (ok .sign)
-
-  -- ---- finite ordinals
-  pub finite-ordinal : (r : ℕ) → isFiniteOrdinal F r ≡ true → Finite F r
-  unfolding isFiniteOrdinal
-  finite-ordinal r h =
-      let t = both (ltb (F .sign) (r + F .infinity)) (ltb r (F .sign + F .infinity)) h in
-      record {
-        low = omega (arith, ok .sign, ok .infinity, ltb-true (F .sign) (r + F .infinity) (t .0));
-        high = omega (arith, ok .sign, ok .infinity, ltb-true r (F .sign + F .infinity) (t .1));
-      }

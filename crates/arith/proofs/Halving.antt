@@ -3,13 +3,12 @@ use mathlib.Core.Path.{_≡_, refl, sym, ap, ap₂, _∙_}
 use mathlib.Core.Logic.{inl, inr}
 use mathlib.Core.Bool.{Bool, true, false}
 use Prim.Native.Nat.{ℕ, zero, suc, _+_, _-_, _*_, _/_, _%_, _^_, _≤_, _<_}
-use native.Mathlib.Nat.{mod-lt, div-add-mod', div-div-eq-div-mul, mul-le-mul-left, mul-le-mul-right, lt-of-lt-of-le, lt-of-mul-lt-mul-right, mul-lt-mul-of-pos-right, mul-pos, pow-succ'}
+use native.Mathlib.Nat.{mod-lt, div-add-mod', div-div-eq-div-mul, lt-of-lt-of-le, lt-of-mul-lt-mul-right, mul-lt-mul-of-pos-right, mul-pos, pow-succ'}
 use native.Mathlib.Omega.{arith}
 use lib.Dec.{eqb}
 use lib.Arith.{digits-div}
 use lib.Pow.{pow-pos, pow-add, pow-mono}
 use lib.Ieee.{size}
-use lib.Ieee.Digits.{size-le}
 use borrow.Author.Tests.{eq-eqb, ne-eqb}
 use Rattle.ladder.specs.Magnitude.{magnitude}
 use Rattle.ladder.specs.Rounding.{excess, truncated}
@@ -21,33 +20,17 @@ use Rattle.arith.specs.Exacts.{Alike, same, sticky, Fraction}
 use Rattle.arith.specs.Thresholds.{halvedOf}
 use Rattle.arith.proofs.Roundings.{inexact}
 
-made : (f n p : ℕ) (b : Bool) → truncated f (n / 2) ≡ p → eqb (2 * magnitude f (truncated f (n / 2))) n ≡ b → record { place = p; exact = b } ≡ halvedOf f n
+made : (f n p : ℕ) (b : Bool) → truncated f (n / 2) ≡ p → eqb (2 * magnitude f (truncated f (n / 2))) n ≡ b → record { m = p; exact = b } ≡ halvedOf f n
 unfolding halvedOf
-made f n p b h g = sym (ap₂ (λ (x : ℕ) (y : Bool). record { place = x; exact = y }) h g)
+made f n p b h g = sym (ap₂ (λ (x : ℕ) (y : Bool). record { m = x; exact = y }) h g)
 
 -- ---- what `halve` makes
-pub halved-zero : (f n s : ℕ) → n ≡ 0 → record { place = 0; exact = true } ≡ halvedOf f (n * 2 ^ s)
+pub halved-zero : (f n s : ℕ) → n ≡ 0 → record { m = 0; exact = true } ≡ halvedOf f (n * 2 ^ s)
 halved-zero f n s z =
     let e : n * 2 ^ s ≡ 0 = ap (λ (x : ℕ). x * 2 ^ s) z ∙ omega arith in
     let none = magnitude-zero f 0 refl in
     let t : truncated f (n * 2 ^ s / 2) ≡ 0 = ap (truncated f) (omega (arith, none)) ∙ truncated-magnitude f 0 in
     made f (n * 2 ^ s) 0 true t (eq-eqb (2 * magnitude f (truncated f (n * 2 ^ s / 2))) (n * 2 ^ s) (omega (arith, e, magnitude-zero f (truncated f (n * 2 ^ s / 2)) t)))
-
--- ---- words have room
-module _ (f n s : ℕ) (ok : Fraction f) (word : n < 2 ^ 64) (h : s * 2 ^ f ≤ 2 ^ 63) where
-  pub digits-fit : size n ≤ 64
-  digits-fit = size-le n 64 word
-
-  pub shift-fits : s ≤ 2 ^ 62
-  shift-fits = omega (arith, mul-le-mul-left s (pow-mono {i = 1} (ok .0)))
-
-  module _ (d : ℕ) (D : d ≡ (size n + s) - (f + 2)) where
-    -- with what is kept on top
-    pub place-fits : d * 2 ^ f + 2 ^ 53 < 2 ^ 64
-    place-fits = omega (arith, mul-le-mul-right {m = d} {n = s + 64} (2 ^ f) (omega (arith, digits-fit)), pow-mono {j = 52} (ok .1))
-
-    pub kept-fits : (w : ℕ) → w < 2 ^ (f + 1) → w < 2 ^ 53
-    kept-fits w l = lt-of-lt-of-le l (pow-mono {j = 53} (omega (arith, ok .1)))
 
 -- ---- the digits
 -- n * 2 ^ s units of which d digits are dropped beside the last, which makes the half; w is what is kept, and r the rest
@@ -66,30 +49,30 @@ module _ (f n s : ℕ) (pos : 0 < n) where
     keeps : T / 2 / 2 ^ d ≡ w
     keeps = div-div-eq-div-mul T 2 (2 ^ d) ∙ ap (λ (x : ℕ). T / x) twice ∙ ap (λ (x : ℕ). x / 2 ^ (d + 1)) is ∙ digits-div w low
 
-    place-is : truncated f (T / 2) ≡ d * 2 ^ f + w
+    m-is : truncated f (T / 2) ≡ d * 2 ^ f + w
     unfolding truncated
-    place-is = ap (λ (x : ℕ). x * 2 ^ f + T / 2 / 2 ^ x) drops ∙ ap (λ (x : ℕ). d * 2 ^ f + x) keeps
+    m-is = ap (λ (x : ℕ). x * 2 ^ f + T / 2 / 2 ^ x) drops ∙ ap (λ (x : ℕ). d * 2 ^ f + x) keeps
 
     value-is : 2 * magnitude f (truncated f (T / 2)) ≡ w * 2 ^ (d + 1)
     value-is =
         ap (λ (x : ℕ). 2 * x) (truncated-value f (T / 2) ∙ ap (λ (x : ℕ). T / 2 / 2 ^ x * 2 ^ x) drops ∙ ap (λ (x : ℕ). x * 2 ^ d) keeps)
         ∙ omega (arith, ap (λ (x : ℕ). w * x) twice)
 
-    halved : record { place = d * 2 ^ f + w; exact = eqb r 0 } ≡ halvedOf f T
+    halved : record { m = d * 2 ^ f + w; exact = eqb r 0 } ≡ halvedOf f T
     halved = elim (le-or-lt r 0) [
       | inl l ↦
           let z : r ≡ 0 = omega arith in
-          ap (λ (b : Bool). record { place = d * 2 ^ f + w; exact = b }) (eq-eqb r 0 z) ∙ made f T (d * 2 ^ f + w) true place-is (eq-eqb (2 * magnitude f (truncated f (T / 2))) T (omega (arith, value-is)))
+          ap (λ (b : Bool). record { m = d * 2 ^ f + w; exact = b }) (eq-eqb r 0 z) ∙ made f T (d * 2 ^ f + w) true m-is (eq-eqb (2 * magnitude f (truncated f (T / 2))) T (omega (arith, value-is)))
       | inr l ↦
           let z : r ≡ 0 → ⊥ = λ e. omega arith in
-          ap (λ (b : Bool). record { place = d * 2 ^ f + w; exact = b }) (ne-eqb r 0 z) ∙ made f T (d * 2 ^ f + w) false place-is (ne-eqb (2 * magnitude f (truncated f (T / 2))) T (λ e. omega (arith, e, value-is)))
+          ap (λ (b : Bool). record { m = d * 2 ^ f + w; exact = b }) (ne-eqb r 0 z) ∙ made f T (d * 2 ^ f + w) false m-is (ne-eqb (2 * magnitude f (truncated f (T / 2))) T (λ e. omega (arith, e, value-is)))
     ]
 
-    -- what is kept has at most f + 1 digits
-    few : w < 2 ^ (f + 1)
-    few =
+    -- what is kept has at most f + 1 digits, so at most 53
+    few : Fraction f → w < 2 ^ 53
+    few ok =
         let a : T < 2 ^ ((f + 1) + (d + 1)) = shifted-lt n s ((f + 1) + (d + 1)) (omega arith) in
-        lt-of-mul-lt-mul-right (2 ^ (d + 1)) (omega (arith, pow-add 2 (f + 1) (d + 1)))
+        lt-of-lt-of-le (lt-of-mul-lt-mul-right (2 ^ (d + 1)) (omega (arith, pow-add 2 (f + 1) (d + 1)))) (pow-mono {i = f + 1} {j = 53} (omega (arith, ok .1)))
 
   right-pow : (d k : ℕ) → k + s ≡ d + 1 → 2 ^ (d + 1) ≡ 2 ^ k * 2 ^ s
   right-pow d k K = ap (λ (x : ℕ). 2 ^ x) (sym K) ∙ pow-add 2 k s
@@ -101,9 +84,9 @@ module _ (f n s : ℕ) (pos : 0 < n) where
   right-low d k K = omega (arith, right-pow d k K, mul-lt-mul-of-pos-right (mod-lt n (pow-pos k)) (pow-pos s))
 
   -- a shift right: the low digits of n are dropped
-  pub halved-right : (d k : ℕ) → d ≡ (size n + s) - (f + 2) → k + s ≡ d + 1 → record { place = d * 2 ^ f + n / 2 ^ k; exact = eqb (n % 2 ^ k) 0 } ≡ halvedOf f T
+  pub halved-right : (d k : ℕ) → d ≡ (size n + s) - (f + 2) → k + s ≡ d + 1 → record { m = d * 2 ^ f + n / 2 ^ k; exact = eqb (n % 2 ^ k) 0 } ≡ halvedOf f T
   halved-right d k D K =
-      ap (λ (b : Bool). record { place = d * 2 ^ f + n / 2 ^ k; exact = b }) (scale-zero (n % 2 ^ k))
+      ap (λ (b : Bool). record { m = d * 2 ^ f + n / 2 ^ k; exact = b }) (scale-zero (n % 2 ^ k))
       ∙ halved d (n / 2 ^ k) (n % 2 ^ k * 2 ^ s) D (right-is d k K) (right-low d k K)
     where
       scale-zero : (x : ℕ) → eqb x 0 ≡ eqb (x * 2 ^ s) 0
@@ -112,21 +95,21 @@ module _ (f n s : ℕ) (pos : 0 < n) where
         | inr l ↦ ne-eqb x 0 (λ e. omega (arith, e)) ∙ sym (ne-eqb (x * 2 ^ s) 0 (λ e. omega (arith, e, mul-pos l (pow-pos s))))
       ]
 
-  pub few-right : (d k : ℕ) → d ≡ (size n + s) - (f + 2) → k + s ≡ d + 1 → n / 2 ^ k < 2 ^ (f + 1)
+  pub few-right : (d k : ℕ) → d ≡ (size n + s) - (f + 2) → k + s ≡ d + 1 → Fraction f → n / 2 ^ k < 2 ^ 53
   few-right d k D K = few d (n / 2 ^ k) (n % 2 ^ k * 2 ^ s) D (right-is d k K) (right-low d k K)
 
   left-is : (d k : ℕ) → k + (d + 1) ≡ s → T ≡ n * 2 ^ k * 2 ^ (d + 1) + 0
   left-is d k K = ap (λ (x : ℕ). n * 2 ^ x) (sym K) ∙ omega (arith, ap (λ (x : ℕ). n * x) (pow-add 2 k (d + 1)))
 
   -- a shift left: every digit is kept
-  pub halved-left : (d k : ℕ) → d ≡ (size n + s) - (f + 2) → k + (d + 1) ≡ s → record { place = d * 2 ^ f + n * 2 ^ k; exact = true } ≡ halvedOf f T
+  pub halved-left : (d k : ℕ) → d ≡ (size n + s) - (f + 2) → k + (d + 1) ≡ s → record { m = d * 2 ^ f + n * 2 ^ k; exact = true } ≡ halvedOf f T
   halved-left d k D K = halved d (n * 2 ^ k) 0 D (left-is d k K) (pow-pos (d + 1))
 
-  pub few-left : (d k : ℕ) → d ≡ (size n + s) - (f + 2) → k + (d + 1) ≡ s → n * 2 ^ k < 2 ^ (f + 1)
+  pub few-left : (d k : ℕ) → d ≡ (size n + s) - (f + 2) → k + (d + 1) ≡ s → Fraction f → n * 2 ^ k < 2 ^ 53
   few-left d k D K = few d (n * 2 ^ k) 0 D (left-is d k K) (pow-pos (d + 1))
 
 -- ---- the digits below f + 2 do not matter, but whether there are any
-below-half : (f i a x : ℕ) → 2 ^ f ≤ a → 0 < x → x < 2 ^ suc i → record { place = i * 2 ^ f + truncated f a; exact = false } ≡ halvedOf f (a * 2 ^ suc i + x)
+below-half : (f i a x : ℕ) → 2 ^ f ≤ a → 0 < x → x < 2 ^ suc i → record { m = i * 2 ^ f + truncated f a; exact = false } ≡ halvedOf f (a * 2 ^ suc i + x)
 below-half f i a x big X l =
     let p = pow-succ' 2 i in
     let n = a * 2 ^ suc i + x in

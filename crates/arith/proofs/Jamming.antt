@@ -8,8 +8,8 @@ use native.Mathlib.Omega.{arith}
 use lib.Pow.{pow-pos, pow-add, pow-mono}
 use Rattle.ladder.proofs.Cases.{le-or-lt}
 use Rattle.ladder.proofs.Multiples.{sub-mul}
-use Rattle.arith.specs.declared.exact.Exact.{Exact}
-use Rattle.arith.specs.declared.rounding.Scaled.{Scaled}
+use Rattle.arith.specs.declared.sum.Exact.{Exact}
+use Rattle.arith.specs.declared.sum.Scaled.{Scaled}
 use Rattle.arith.specs.Exacts.{joinedOf, sizeOf, Shaped, Alike, same, sticky, Scales, Digits}
 
 -- ---- the numbers: u and v are powers of two, Q is K * 2u and the rest L
@@ -63,7 +63,7 @@ module _ (f g i P Q : ℕ) (some : 1 ≤ f) (big : 2 ^ f ≤ P) (few : Q < 2 * 2
   uv : 0 < u * v
   uv = mul-pos (pow-pos g) (pow-pos i)
 
-  -- only a sticky bit below a, where a has a digit more than a place keeps
+  -- only a sticky bit below a, where a has a digit more than an m keeps
   stuck : (a b c n m : ℕ) → 2 * 2 ^ f ≤ a → 0 < b → b < 2 * u * v → 0 < c → c < 2 * u * v → n ≡ a * (2 * u * v) + b → m ≡ a * (2 * u * v) + c → Alike f n m
   stuck a b c n m big B B' C C' N M =
       sticky (suc g + i) a b c big B (omega (arith, wide)) C (omega (arith, wide)) (N ∙ ap (λ (w : ℕ). a * w + b) (sym wide)) (M ∙ ap (λ (w : ℕ). a * w + c) (sym wide))

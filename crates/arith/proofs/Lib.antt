@@ -3,6 +3,7 @@ pub mod Shifting
 pub mod Formats
 pub mod Intervals
 pub mod Images
+pub mod Signs
 pub mod Decoding
 pub mod Roundings
 pub mod Jamming

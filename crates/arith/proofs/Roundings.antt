@@ -1,9 +1,10 @@
--- The rounding of a number of units: an exact one, one by its kept digits and the rest, and one of whose low digits only a sticky bit is kept. Rests on `ladder`'s Digits, Magnitude, Rounding, Multiples and Sticky.
+-- The rounding of a number of units: an exact one, one by its kept digits and the rest, and one of whose low digits only a sticky bit is kept. Rests on `ladder`'s Digits, Magnitude, Rounding, Nearest, Multiples and Sticky.
 use mathlib.Core.Path.{_≡_, refl, sym, ap, ap₂, _∙_}
-use mathlib.Core.Logic.{inl, inr}
+use mathlib.Core.Logic.{_⊎_, inl, inr}
 use mathlib.Core.Bool.{Bool, true, false}
 use Prim.Native.Nat.{ℕ, suc, _+_, _-_, _*_, _/_, _%_, _^_, _≤_, _<_, Ordering, Ordering·lt, Ordering·eq, Ordering·gt}
-use native.Mathlib.Nat.{mod-lt, div-add-mod', mul-le-mul, mul-le-mul-left, mul-le-mul-right, mul-lt-mul-of-pos-right, mod-eq-zero-of-dvd, pow-succ', mul-pos}
+use native.Mathlib.Nat.{div-lt-iff-lt-mul, le-trans, le-of-eq, eq-of-mul-eq-mul-right, mod-lt, div-add-mod'}
+use native.Mathlib.Nat.{mul-le-mul-left, mul-le-mul-right, mul-lt-mul-of-pos-right, mod-eq-zero-of-dvd, pow-succ', mul-pos}
 use native.Mathlib.Omega.{arith}
 use lib.Dec.{eqb}
 use lib.Arith.{digits-mod}
@@ -14,25 +15,34 @@ use lib.Ieee.Nearest.{closest}
 use borrow.Author.Tests.{eq-eqb, ne-eqb}
 use Rattle.ladder.specs.Magnitude.{magnitude}
 use Rattle.ladder.specs.Rounding.{excess, round}
-use Rattle.ladder.proofs.Cases.{le-or-lt, Compares, compare-is}
-use Rattle.ladder.proofs.Digits.{shifted-lt, shifted-ge}
-use Rattle.ladder.proofs.Magnitude.{magnitude-is, magnitude-small}
-use Rattle.ladder.proofs.Rounding.{round-magnitude, even-pow}
+use Rattle.ladder.proofs.Cases.{le-or-lt, trichotomy, equal-or-not, Compares, compare-is}
+use Rattle.ladder.proofs.Digits.{shifted-lt, shifted-ge, size-scale}
+use Rattle.ladder.proofs.Magnitude.{magnitude-is, magnitude-small, magnitude-shift}
+use Rattle.ladder.proofs.Rounding.{round-mono, round-magnitude, even-pow}
 use Rattle.ladder.proofs.Multiples.{magnitude-dvd}
 use Rattle.ladder.proofs.Sticky.{round-sticky, round-scale}
-use Rattle.arith.specs.Exacts.{roundingOf, Alike, same, sticky}
+use Rattle.ladder.proofs.Nearest.{round-nearest-size}
+use Rattle.arith.specs.declared.sum.Rounded.{Rounded}
+use Rattle.arith.specs.Exacts.{leadingOf, roundingOf, Alike, same, sticky, Fraction}
+use Rattle.arith.specs.Steps.{Rounds}
 
-rounding-is : (f n p : ℕ) (b : Bool) → round f n ≡ p → eqb (magnitude f (round f n)) n ≡ b → record { place = p; exact = b } ≡ roundingOf f n
+pub same-eqb : (a b c d : ℕ) → (a ≡ b → c ≡ d) → (c ≡ d → a ≡ b) → eqb a b ≡ eqb c d
+same-eqb a b c d p q = elim (equal-or-not a b) [
+  | inl e ↦ eq-eqb a b e ∙ sym (eq-eqb c d (p e))
+  | inr n ↦ ne-eqb a b n ∙ sym (ne-eqb c d (λ e. n (q e)))
+]
+
+rounding-is : (f n p : ℕ) (b : Bool) → round f n ≡ p → eqb (magnitude f (round f n)) n ≡ b → record { m = p; exact = b } ≡ roundingOf f n
 unfolding roundingOf
-rounding-is f n p b h g = sym (ap₂ (λ (x : ℕ) (y : Bool). record { place = x; exact = y }) h g)
+rounding-is f n p b h g = sym (ap₂ (λ (x : ℕ) (y : Bool). record { m = x; exact = y }) h g)
 
 -- ---- nothing is lost
-rounding-exact : (f m n : ℕ) → 1 ≤ f → magnitude f m ≡ n → record { place = m; exact = true } ≡ roundingOf f n
+rounding-exact : (f m n : ℕ) → 1 ≤ f → magnitude f m ≡ n → record { m = m; exact = true } ≡ roundingOf f n
 rounding-exact f m n some e =
     let r : round f n ≡ m = ap (round f) (sym e) ∙ round-magnitude f some m in
     rounding-is f n m true r (eq-eqb _ _ (ap (magnitude f) r ∙ e))
 
--- ---- digits below those that a place keeps
+-- ---- digits below those that an m keeps
 pub inexact : (f j a b m : ℕ) → 2 ^ f ≤ a → 0 < b → b < 2 ^ j → magnitude f m ≡ a * 2 ^ j + b → ⊥
 inexact f j a b m big B l e =
     let g : 2 ^ (j + f) ≤ magnitude f m = omega (arith, pow-add 2 j f, mul-le-mul-right (2 ^ j) big) in
@@ -49,9 +59,48 @@ pub rounding-alike : (f n m : ℕ) → 1 ≤ f → Alike f n m → roundingOf f 
 rounding-alike f n m some (same e) = ap (roundingOf f) e
 rounding-alike f n m some (sticky j a b c big B B' C C' N M) = ap (roundingOf f) N ∙ rounding-sticky f j a b c some big B B' C C' ∙ sym (ap (roundingOf f) M)
 
--- ---- the quotient, by how twice the rest compares
+-- the formula, and that none is nearer
+pub rounds : (f n : ℕ) (r : Rounded) → 1 ≤ f → r ≡ roundingOf f n → Rounds f n r
+unfolding roundingOf
+rounds f n r some e = record { is = e; nearest = rw e (round-nearest-size f n some) }
+
+-- ---- the quotient
+quotient-few : (j k n : ℕ) → n < 2 ^ (j + k) → n / 2 ^ k < 2 ^ j
+quotient-few j k n h = div-lt-iff-lt-mul (pow-pos k) .1 (omega (arith, pow-add 2 j k))
+
+-- rounded, by how twice the rest compares
 closest-at : (n d : ℕ) (o : Ordering) → Compares o (n % d * 2) d → closest n d ≡ nearest (n / d) o
 closest-at n d o h = ap (nearest (n / d)) (compare-is (n % d * 2) d o h)
+
+-- one up where the rest is over half of d, or half of it beside an odd quotient q
+abbrev pub Up : ℕ → ℕ → ℕ → ℕ → Type 0
+Up q rest half up = ((half < rest + q % 2) × (up ≡ 1)) ⊎ ((rest + q % 2 ≤ half) × (up ≡ 0))
+
+closest-up : (n d half up : ℕ) → d ≡ 2 * half → Up (n / d) (n % d) half up → closest n d ≡ n / d + up
+closest-up n d half up D u = elim (trichotomy (n % d) half) [
+  | inl l ↦ closest-at n d Ordering·lt (omega arith) ∙ elim u [ inl h ↦ omega arith | inr h ↦ omega arith ]
+  | inr o ↦ elim o [
+    | inl e ↦ closest-at n d Ordering·eq (omega arith) ∙ elim u [ inl h ↦ omega arith | inr h ↦ omega arith ]
+    | inr g ↦ closest-at n d Ordering·gt (omega arith) ∙ elim u [ inl h ↦ omega arith | inr h ↦ omega arith ]
+  ]
+]
+
+-- ---- what `round_leading` makes of n: q is kept, and rest goes
+pub rest-fits : (f n rest : ℕ) → rest ≡ n % 2 ^ (63 - f) → rest < 2 ^ 63
+rest-fits f n rest R = omega (arith, mod-lt n (pow-pos (63 - f)), pow-mono {i = 63 - f} {j = 63} (omega arith))
+
+pub significand-fits : (f n q : ℕ) → Fraction f → n < 2 ^ 64 → q ≡ n / 2 ^ (63 - f) → q < 2 ^ 53
+significand-fits f n q ok word Q =
+    let w : f + 1 + (63 - f) ≡ 64 = omega (arith, ok .1) in
+    omega (arith, quotient-few (f + 1) (63 - f) n (omega (arith, ap (λ (x : ℕ). 2 ^ x) w)), pow-mono {i = f + 1} {j = 53} (omega (arith, ok .1)))
+
+pub leading-is : (f n e q rest half u up : ℕ) → Fraction f → q ≡ n / 2 ^ (63 - f) → rest ≡ n % 2 ^ (63 - f) → half ≡ 1 * 2 ^ (63 - f - 1) → u ≡ e * 2 ^ f → Up q rest half up
+    → record { m = u + q + up; exact = eqb rest 0 } ≡ leadingOf f n e
+leading-is f n e q rest half u up ok Q R H U p =
+    let k : ℕ = 63 - f in
+    let D : 2 ^ k ≡ 2 * half = even-pow k (omega (arith, ok .1)) ∙ omega arith in
+    let c = closest-up n (2 ^ k) half up D (rw (Q, R) at p) in
+    ap₂ (λ (x y : ℕ). record { m = x; exact = eqb y 0 }) (omega (arith, c)) R
 
 -- ---- n has f + 1 + k digits, and stands for n * 2 ^ s
 module _ (f n s k : ℕ) (long : size n ≡ f + 1 + k) where
@@ -64,7 +113,7 @@ module _ (f n s k : ℕ) (long : size n ≡ f + 1 + k) where
   kept-few : n / 2 ^ k < 2 * 2 ^ f
   kept-few =
       let e : size n ≡ suc f + k = omega arith in
-      native.Mathlib.Nat.div-lt-iff-lt-mul (pow-pos k) .1 (omega (arith, size-lt n, ap (λ (x : ℕ). 2 ^ x) e, pow-add 2 (suc f) k, ap (λ (x : ℕ). x * 2 ^ k) (pow-succ' 2 f)))
+      omega (arith, quotient-few (suc f) k n (omega (arith, size-lt n, ap (λ (x : ℕ). 2 ^ x) e)), pow-succ' 2 f)
 
   round-long : round f (n * 2 ^ s) ≡ (s + k) * 2 ^ f + closest n (2 ^ k)
   unfolding round excess
@@ -79,65 +128,73 @@ module _ (f n s k : ℕ) (long : size n ≡ f + 1 + k) where
       (omega (arith, pow-add 2 k s, mul-lt-mul-of-pos-right (mod-lt n (pow-pos k)) (pow-pos s)))
       (e ∙ omega (arith, ap (λ (x : ℕ). x * 2 ^ s) (div-add-mod' n (2 ^ k)), ap (λ (x : ℕ). n / 2 ^ k * x) (pow-add 2 k s))))
 
-  rest-exact : 1 ≤ f → n % 2 ^ k ≡ 0 → record { place = (s + k) * 2 ^ f + n / 2 ^ k; exact = true } ≡ roundingOf f (n * 2 ^ s)
-  rest-exact some z =
-      rounding-exact f ((s + k) * 2 ^ f + n / 2 ^ k) (n * 2 ^ s) some
-      (magnitude-is f (s + k) (n / 2 ^ k) (inr kept-big) (omega (arith, kept-few))
-      ∙ omega (arith, ap (λ (x : ℕ). x * 2 ^ s) (div-add-mod' n (2 ^ k)), ap (λ (x : ℕ). x * 2 ^ s) z, ap (λ (x : ℕ). n / 2 ^ k * x) (pow-add 2 s k)))
+  rest-none : n % 2 ^ k ≡ 0 → magnitude f ((s + k) * 2 ^ f + n / 2 ^ k) ≡ n * 2 ^ s
+  rest-none z =
+      magnitude-is f (s + k) (n / 2 ^ k) (inr kept-big) (omega (arith, kept-few))
+      ∙ omega (arith, ap (λ (x : ℕ). x * 2 ^ s) (div-add-mod' n (2 ^ k)), ap (λ (x : ℕ). x * 2 ^ s) z, ap (λ (x : ℕ). n / 2 ^ k * x) (pow-add 2 s k))
 
-  -- ---- what `round_long` makes
-  module _ (some : 1 ≤ f) (pos : 0 < k) (q left half u : ℕ) (Q : q ≡ n / 2 ^ k) (R : left ≡ n % 2 ^ k) (H : half ≡ 1 * 2 ^ (k - 1)) (U : u ≡ (s + k) * 2 ^ f) where
-    twice : 2 ^ k ≡ 2 * half
-    twice = even-pow k pos ∙ omega arith
+  -- nothing is lost exactly where there is no rest
+  rest-tells : 1 ≤ f → eqb (magnitude f (round f (n * 2 ^ s))) (n * 2 ^ s) ≡ eqb (n % 2 ^ k) 0
+  rest-tells some = elim (le-or-lt (n % 2 ^ k) 0) [
+    | inl l ↦
+        let z : n % 2 ^ k ≡ 0 = omega arith in
+        let r : round f (n * 2 ^ s) ≡ (s + k) * 2 ^ f + n / 2 ^ k = ap (round f) (sym (rest-none z)) ∙ round-magnitude f some ((s + k) * 2 ^ f + n / 2 ^ k) in
+        eq-eqb _ _ (ap (magnitude f) r ∙ rest-none z) ∙ sym (eq-eqb _ _ z)
+    | inr p ↦ rest-inexact p ∙ sym (ne-eqb (n % 2 ^ k) 0 (λ e. omega (arith, e)))
+  ]
 
-    pub long-down : left < half → record { place = u + q; exact = eqb left 0 } ≡ roundingOf f (n * 2 ^ s)
-    long-down l = elim (le-or-lt left 0) [
-      | inl z ↦
-          let e : left ≡ 0 = omega arith in
-          ap₂ (λ (x : ℕ) (b : Bool). record { place = x; exact = b }) (omega arith) (eq-eqb _ _ e) ∙ rest-exact some (sym R ∙ e)
-      | inr p ↦
-          let ne : left ≡ 0 → ⊥ = λ e. omega arith in
-          ap (λ (b : Bool). record { place = u + q; exact = b }) (ne-eqb _ _ ne)
-          ∙ rounding-is f (n * 2 ^ s) (u + q) false (round-long ∙ omega (arith, closest-at n (2 ^ k) Ordering·lt (omega (arith, twice)))) (rest-inexact (omega arith))
-    ]
+  long-is : 1 ≤ f → record { m = (s + k) * 2 ^ f + closest n (2 ^ k); exact = eqb (n % 2 ^ k) 0 } ≡ roundingOf f (n * 2 ^ s)
+  long-is some = rounding-is f (n * 2 ^ s) ((s + k) * 2 ^ f + closest n (2 ^ k)) (eqb (n % 2 ^ k) 0) round-long (rest-tells some)
 
-    pub long-tie : left ≡ half → record { place = u + q + q % 2; exact = false } ≡ roundingOf f (n * 2 ^ s)
-    long-tie e =
-        rounding-is f (n * 2 ^ s) (u + q + q % 2) false
-        (round-long ∙ ap (λ (x : ℕ). (s + k) * 2 ^ f + x) (closest-at n (2 ^ k) Ordering·eq (omega (arith, twice))) ∙ omega (arith, ap (λ (x : ℕ). x % 2) Q))
-        (rest-inexact (omega (arith, twice, pow-pos k)))
+-- ---- a shift of a number that has all its digits
+-- N is n * 2 ^ z, and rounds to z binades more
+shifted-back : (f n z N p q : ℕ) (b : Bool) → 1 ≤ f → 2 ^ f ≤ n → N ≡ n * 2 ^ z → q ≡ z * 2 ^ f + p → record { m = q; exact = b } ≡ roundingOf f N → record { m = p; exact = b } ≡ roundingOf f n
+unfolding roundingOf
+shifted-back f n z N p q b some big X Q h =
+    let P : q ≡ round f N = ap (λ (x : Rounded). x .m) h in
+    let B : b ≡ eqb (magnitude f (round f N)) N = ap (λ (x : Rounded). x .exact) h in
+    let r : round f N ≡ z * 2 ^ f + round f n = ap (round f) X ∙ round-scale f n z big in
+    let full : 2 ^ f ≤ round f n = le-trans (le-of-eq (sym (round-magnitude f some (2 ^ f)) ∙ ap (round f) (magnitude-small f (2 ^ f) (omega arith)))) (round-mono f some (2 ^ f) n big) in
+    let v : magnitude f (round f N) ≡ magnitude f (round f n) * 2 ^ z = ap (magnitude f) r ∙ magnitude-shift f z (round f n) full in
+    let same = same-eqb (magnitude f (round f n)) n (magnitude f (round f N)) N (λ e. v ∙ ap (λ (x : ℕ). x * 2 ^ z) e ∙ sym X)
+    (λ e. eq-of-mul-eq-mul-right (2 ^ z) (pow-pos z) (magnitude f (round f n)) n (sym v ∙ e ∙ X))
+    in
+    rounding-is f n p b (omega arith) (same ∙ sym B)
 
-    pub long-up : half < left → record { place = u + q + 1; exact = false } ≡ roundingOf f (n * 2 ^ s)
-    long-up l =
-        rounding-is f (n * 2 ^ s) (u + q + 1) false (round-long ∙ omega (arith, closest-at n (2 ^ k) Ordering·gt (omega (arith, twice)))) (rest-inexact (omega arith))
+-- ---- words have room for n, shifted, and for its digits
+module _ (f n s : ℕ) (ok : Fraction f) (word : n < 2 ^ 64) (h : s * 2 ^ f ≤ 2 ^ 63) where
+  pub digits-fit : size n ≤ 64
+  digits-fit = size-le n 64 word
 
-  pub long-fits : f ≤ 52 → n < 2 ^ 64 → s * 2 ^ f ≤ 2 ^ 63 → (k < 64) × (s ≤ 2 ^ 63) × ((s + k) * 2 ^ f + n / 2 ^ k + 1 < 2 ^ 64)
-  long-fits few word high =
-      let K : k ≤ 63 = omega (arith, size-le n 64 word) in
-      let F = pow-mono few in
-      (omega arith, omega (arith, mul-le-mul-left s (pow-pos f)), omega (arith, mul-le-mul K F, kept-few))
+  pub shift-fits : s ≤ 2 ^ 62
+  shift-fits = omega (arith, mul-le-mul-left s (pow-mono {i = 1} (ok .0)))
 
--- ---- what `round_short` makes
-module _ (f n s : ℕ) (some : 1 ≤ f) where
-  pub short-zero : n ≡ 0 → record { place = 0; exact = true } ≡ roundingOf f (n * 2 ^ s)
-  short-zero z = rounding-exact f 0 (n * 2 ^ s) some (magnitude-small f 0 (omega arith) ∙ omega (arith, ap (λ (x : ℕ). x * 2 ^ s) z))
+  pub leading-fits : n * 2 ^ (64 - size n) < 2 ^ 64
+  leading-fits = shifted-lt n (64 - size n) 64 (omega (arith, digits-fit))
 
-  pub short-low : (p : ℕ) → p ≡ n * 2 ^ s → size n + s ≤ f + 1 → record { place = p; exact = true } ≡ roundingOf f (n * 2 ^ s)
-  short-low p e h =
+  pub excess-fits : (d : ℕ) → d ≤ size n + s → d * 2 ^ f ≤ 2 ^ 63 + 2 ^ 62
+  excess-fits d l = omega (arith, mul-le-mul-right {m = d} {n = s + 64} (2 ^ f) (omega (arith, digits-fit)), pow-mono {j = 52} (ok .1))
+
+-- ---- what `round_units` makes of n, which stands for n * 2 ^ s
+module _ (f n s : ℕ) (ok : Fraction f) where
+  pub units-zero : n ≡ 0 → record { m = 0; exact = true } ≡ roundingOf f (n * 2 ^ s)
+  units-zero z = rounding-exact f 0 (n * 2 ^ s) (ok .0) (magnitude-small f 0 (omega arith) ∙ omega (arith, ap (λ (x : ℕ). x * 2 ^ s) z))
+
+  -- at most f + 1 digits
+  pub units-few : (p : ℕ) → p ≡ n * 2 ^ s → size n + s ≤ f + 1 → record { m = p; exact = true } ≡ roundingOf f (n * 2 ^ s)
+  units-few p e h =
       let g : size n + s ≤ suc f = omega arith in
-      rounding-exact f p (n * 2 ^ s) some (magnitude-small f p (omega (arith, shifted-lt n s (suc f) g, pow-succ' 2 f)) ∙ e)
+      rounding-exact f p (n * 2 ^ s) (ok .0) (magnitude-small f p (omega (arith, shifted-lt n s (suc f) g, pow-succ' 2 f)) ∙ e)
 
-  pub short-high : (r u p : ℕ) → 0 < n → size n + r ≡ f + 1 → r < s → u ≡ (s - r) * 2 ^ f → p ≡ n * 2 ^ r → record { place = u + p; exact = true } ≡ roundingOf f (n * 2 ^ s)
-  short-high r u p pos h l U E =
-      let a : 2 ^ f ≤ p = omega (arith, shifted-ge n r f pos (omega arith)) in
-      let b : p ≤ 2 * 2 ^ f = omega (arith, shifted-lt n r (suc f) (omega arith), pow-succ' 2 f) in
-      let w : r + (s - r) ≡ s = omega arith in
-      rounding-exact f (u + p) (n * 2 ^ s) some
-      (ap (λ (x : ℕ). magnitude f (x + p)) U ∙ magnitude-is f (s - r) p (inr a) b
-      ∙ omega (arith, ap (λ (x : ℕ). x * 2 ^ (s - r)) E, ap (λ (x : ℕ). n * x) (pow-add 2 r (s - r)), ap (λ (x : ℕ). n * 2 ^ x) w))
-
-pub short-fits : (f n s r : ℕ) → f ≤ 52 → size n + r ≤ f + 1 → s * 2 ^ f ≤ 2 ^ 63 → (n * 2 ^ r < 2 ^ 53) × ((s - r) * 2 ^ f ≤ 2 ^ 63)
-short-fits f n s r few h high =
-    let l : size n + r ≤ 53 = omega arith in
-    let k : s - r ≤ s = omega arith in
-    (shifted-lt n r 53 l, omega (arith, mul-le-mul-right (2 ^ f) k))
+  -- more, with the first digit on top of a word
+  pub units-many : 0 < n → n < 2 ^ 64 → f + 1 < size n + s → leadingOf f (n * 2 ^ (64 - size n)) (size n + s - (f + 1)) ≡ roundingOf f (n * 2 ^ s)
+  units-many pos word more =
+      let z : ℕ = 64 - size n in
+      let k : ℕ = 63 - f in
+      let e : ℕ = size n + s - (f + 1) in
+      let N : ℕ = n * 2 ^ z in
+      let few = size-le n 64 word in
+      let top : size N ≡ f + 1 + k = size-scale n z pos ∙ omega (arith, ok .1) in
+      let E : s + k ≡ z + e = omega (arith, ok .1) in
+      shifted-back f (n * 2 ^ s) z (N * 2 ^ s) (e * 2 ^ f + closest N (2 ^ k)) ((s + k) * 2 ^ f + closest N (2 ^ k)) (eqb (N % 2 ^ k) 0) (ok .0) (shifted-ge n s f pos (omega arith))
+      (omega arith) (omega (arith, ap (λ (x : ℕ). x * 2 ^ f) E)) (long-is f N s k top (ok .0))

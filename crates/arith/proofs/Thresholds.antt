@@ -11,10 +11,10 @@ use Rattle.ladder.specs.Rounding.{truncated}
 use Rattle.ladder.specs.Search.{crossingUp, crossingDown}
 use Rattle.ladder.proofs.Cases.{le-or-lt}
 use Rattle.ladder.proofs.Threshold.{half-under, threshold-up, threshold-up-inexact, threshold-down, threshold-down-inexact, threshold-high, threshold-low}
-use Rattle.arith.specs.declared.exact.Exact.{Exact}
+use Rattle.arith.specs.declared.sum.Exact.{Exact}
 use Rattle.arith.specs.declared.format.Format.{Format}
-use Rattle.arith.specs.declared.rounding.Rounded.{Rounded}
-use Rattle.arith.specs.declared.rounding.Scaled.{Scaled}
+use Rattle.arith.specs.declared.sum.Rounded.{Rounded}
+use Rattle.arith.specs.declared.sum.Scaled.{Scaled}
 use Rattle.arith.specs.Formats.{Sound, Finite}
 use Rattle.arith.specs.Exacts.{sizeOf, Scales}
 use Rattle.arith.specs.Thresholds.{Crosses, halvedOf, Threshold}
@@ -35,27 +35,27 @@ module _ (F : Format) (a b : ℕ) (t : Exact) (s : Scaled) (r : Rounded) (ok : S
   n = sizeOf t
 
   abbrev h : ℕ
-  h = r .place
+  h = r .m
 
   halved : r ≡ halvedOf f n
   halved = R ∙ halving-alike f (s .significand * 2 ^ s .shift) n (S .alike)
 
-  place-is : h ≡ truncated f (n / 2)
+  m-is : h ≡ truncated f (n / 2)
   unfolding halvedOf
-  place-is = ap (λ (x : Rounded). x .place) halved
+  m-is = ap (λ (x : Rounded). x .m) halved
 
   exact-is : r .exact ≡ eqb (2 * magnitude f (truncated f (n / 2))) n
   unfolding halvedOf
   exact-is = ap (λ (x : Rounded). x .exact) halved
 
   exact : r .exact ≡ true → 2 * magnitude f h ≡ n
-  exact x = ap (λ (y : ℕ). 2 * magnitude f y) place-is ∙ eqb-true _ _ (sym exact-is ∙ x)
+  exact x = ap (λ (y : ℕ). 2 * magnitude f y) m-is ∙ eqb-true _ _ (sym exact-is ∙ x)
 
   inexact : r .exact ≡ false → 2 * magnitude f h < n
   inexact x =
-      let u = half-under f n h place-is in
+      let u = half-under f n h m-is in
       let d = eqb-false (2 * magnitude f (truncated f (n / 2))) n (sym exact-is ∙ x) in
-      let p = ap (λ (y : ℕ). 2 * magnitude f y) place-is in
+      let p = ap (λ (y : ℕ). 2 * magnitude f y) m-is in
       elim (le-or-lt n (2 * magnitude f h)) [ inl l ↦ absurd (d (omega arith)) | inr l ↦ l ]
 
   -- the step up from where half the difference is
@@ -68,19 +68,19 @@ module _ (F : Format) (a b : ℕ) (t : Exact) (s : Scaled) (r : Rounded) (ok : S
       size-down = difference n (crossingUp f e a b) (crossingDown f e a b) (subst (λ (x : Bool). cond x 0 n ≡ crossingUp f e a b - crossingDown f e a b) neg (T .up)) (subst (λ (x : Bool). cond x n 0 ≡ crossingDown f e a b - crossingUp f e a b) neg (T .down))
 
       pub below-fits : h < F .sign
-      below-fits = omega (arith, ok .sign, threshold-low f e a b (ok .some) B n h place-is A size-down)
+      below-fits = omega (arith, ok .sign, threshold-low f e a b (ok .some) B n h m-is A size-down)
 
       pub below-is : Step 0 up → Threshold F a b (F .sign + up - h)
-      below-is (inl x) = subst (λ (y : ℕ). Threshold F a b (y - h)) (omega (arith, ok .sign, x .1)) (threshold-down f e a b (ok .some) B n h place-is size-down (exact (x .0)))
-      below-is (inr x) = subst (λ (y : ℕ). Threshold F a b (y - h)) (omega (arith, ok .sign, x .1)) (threshold-down-inexact f e a b (ok .some) B n h place-is size-down (inexact (x .0)))
+      below-is (inl x) = subst (λ (y : ℕ). Threshold F a b (y - h)) (omega (arith, ok .sign, x .1)) (threshold-down f e a b (ok .some) B n h m-is size-down (exact (x .0)))
+      below-is (inr x) = subst (λ (y : ℕ). Threshold F a b (y - h)) (omega (arith, ok .sign, x .1)) (threshold-down-inexact f e a b (ok .some) B n h m-is size-down (inexact (x .0)))
 
     module _ (pos : t .negative ≡ false) where
       size-up : crossingUp f e a b ≡ crossingDown f e a b + n
       size-up = difference n (crossingDown f e a b) (crossingUp f e a b) (subst (λ (x : Bool). cond x n 0 ≡ crossingDown f e a b - crossingUp f e a b) pos (T .down)) (subst (λ (x : Bool). cond x 0 n ≡ crossingUp f e a b - crossingDown f e a b) pos (T .up))
 
       pub above-fits : h + 1 < F .sign
-      above-fits = omega (arith, ok .sign, threshold-high f e a b (ok .some) B n h place-is A size-up)
+      above-fits = omega (arith, ok .sign, threshold-high f e a b (ok .some) B n h m-is A size-up)
 
       pub above-is : Step 1 up → Threshold F a b (F .sign + h + up)
-      above-is (inl x) = subst (Threshold F a b) (omega (arith, ok .sign, x .1)) (threshold-up f e a b (ok .some) B n h place-is size-up (exact (x .0)))
-      above-is (inr x) = subst (Threshold F a b) (omega (arith, ok .sign, x .1)) (threshold-up-inexact f e a b (ok .some) B n h place-is size-up (inexact (x .0)))
+      above-is (inl x) = subst (Threshold F a b) (omega (arith, ok .sign, x .1)) (threshold-up f e a b (ok .some) B n h m-is size-up (exact (x .0)))
+      above-is (inr x) = subst (Threshold F a b) (omega (arith, ok .sign, x .1)) (threshold-up-inexact f e a b (ok .some) B n h m-is size-up (inexact (x .0)))

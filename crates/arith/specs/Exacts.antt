@@ -1,24 +1,31 @@
--- The first two steps of the forward sum: the exact sum of two floats, with nothing lost, and that sum rounded as if no exponent were too large. For contracts inside the crate; no public one cites it. Assumes nothing.
+-- An exact sum in words of the machine, and its rounding: what the steps of the forward sum (Steps) and the functions below them make. For contracts inside the crate; no public one cites it. Assumes nothing.
 use mathlib.Core.Path.{_≡_}
 use mathlib.Core.Logic.{_⊎_}
 use mathlib.Core.Bool.{Bool, cond}
-use Prim.Native.Nat.{ℕ, _+_, _-_, _*_, _^_, _≤_, _<_}
+use Prim.Native.Nat.{ℕ, _+_, _-_, _*_, _%_, _^_, _≤_, _<_}
 use lib.Dec.{eqb}
+use lib.Ieee.Nearest.{closest}
 use Rattle.ladder.specs.Magnitude.{magnitude, shift, significand}
 use Rattle.ladder.specs.Rounding.{round}
-use Rattle.ladder.specs.Sum.{gains, losses}
-use Rattle.arith.specs.declared.format.Format.{Format}
-use Rattle.arith.specs.declared.exact.Parts.{Parts}
-use Rattle.arith.specs.declared.exact.Exact.{Exact}
-use Rattle.arith.specs.declared.rounding.Scaled.{Scaled}
-use Rattle.arith.specs.declared.rounding.Rounded.{Rounded}
+use Rattle.arith.specs.declared.sum.Exact.{Exact}
+use Rattle.arith.specs.declared.sum.Scaled.{Scaled}
+use Rattle.arith.specs.declared.sum.Rounded.{Rounded}
 
--- ---- step 1: the exact sum
--- m taken apart
-abbrev pub partsOf : ℕ → ℕ → Parts
+-- ---- sizes of words
+-- the numbers of fraction bits that the arithmetic takes
+abbrev pub Fraction : ℕ → Type 0
+Fraction f = (1 ≤ f) × (f ≤ 52)
+
+-- and how many digits beside the first a significand may have
+abbrev pub Digits : ℕ → Type 0
+Digits d = (1 ≤ d) × (d ≤ 53)
+
+-- ---- the exact sum
+-- the value of m taken apart
+abbrev pub partsOf : ℕ → ℕ → Scaled
 partsOf f m = record { significand = significand f m; shift = shift f m }
 
--- two magnitudes m and n, of which m is no smaller, with the sign of m; opposite says that the signs differ
+-- the sum of two floats by their m and n, of which m is no smaller, with the sign of m; opposite says that the signs differ
 abbrev pub exactOf : ℕ → Bool → Bool → ℕ → ℕ → Exact
 exactOf f negative opposite m n =
     record {
@@ -46,6 +53,12 @@ pub record Shaped (d : ℕ) (t : Exact) : Type 0 where
 abbrev pub Low : ℕ → Exact → Type 0
 Low f t = (t .gap + t .shift) * 2 ^ f ≤ 2 ^ 63
 
+-- t is an exact sum that can be rounded to f fraction bits
+pub record Roundable (f : ℕ) (t : Exact) : Type 0 where
+  pub fraction : Fraction f
+  pub shaped : Shaped f t
+  pub low : Low f t
+
 -- t is p - n units, above zero or below it, and rounding can take it
 pub record Amounts (f d p n : ℕ) (t : Exact) : Type 0 where
   pub up : cond (t .negative) 0 (sizeOf t) ≡ p - n
@@ -53,14 +66,14 @@ pub record Amounts (f d p n : ℕ) (t : Exact) : Type 0 where
   pub shaped : Shaped d t
   pub low : Low f t
 
--- t is the exact sum of the ordinals x and a: as many units as they make together
-abbrev pub Exactly : Format → ℕ → ℕ → Exact → Type 0
-Exactly F x a = Amounts (F .fraction) (F .fraction) (gains (F .fraction) (F .exponent) x a) (losses (F .fraction) (F .exponent) x a)
-
--- ---- step 2: rounding
+-- ---- rounding
 -- n units rounded to the nearest m, and whether nothing was lost
 unfoldable pub roundingOf : ℕ → ℕ → Rounded
-roundingOf f n = record { place = round f n; exact = eqb (magnitude f (round f n)) n }
+roundingOf f n = record { m = round f n; exact = eqb (magnitude f (round f n)) n }
+
+-- a number of f + 1 + excess digits rounded to f + 1, and whether nothing was lost: n has its digits from the top of a word on
+abbrev pub leadingOf : ℕ → ℕ → ℕ → Rounded
+leadingOf f n excess = record { m = excess * 2 ^ f + closest n (2 ^ (63 - f)); exact = eqb (n % 2 ^ (63 - f)) 0 }
 
 -- larger and smaller, added, or taken away where the signs are opposite
 abbrev pub joinedOf : Bool → ℕ → ℕ → ℕ → Scaled
@@ -75,11 +88,3 @@ pub data Alike (d n m : ℕ) : Type 0 where
 pub record Scales (d : ℕ) (t : Exact) (s : Scaled) : Type 0 where
   pub alike : Alike d (s .significand * 2 ^ s .shift) (sizeOf t)
   pub low : s .shift ≤ t .gap + t .shift
-
--- the numbers of fraction bits that the arithmetic takes
-abbrev pub Fraction : ℕ → Type 0
-Fraction f = (1 ≤ f) × (f ≤ 52)
-
--- and how many digits beside the first a significand may have
-abbrev pub Digits : ℕ → Type 0
-Digits d = (1 ≤ d) × (d ≤ 53)

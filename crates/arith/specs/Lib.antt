@@ -2,6 +2,7 @@ pub mod Refusals
 pub mod Formats
 pub mod Exacts
 pub mod Sums
+pub mod Steps
 pub mod Intervals
 pub mod Thresholds
 pub mod Searches

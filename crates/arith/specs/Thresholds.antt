@@ -6,8 +6,8 @@ use Rattle.ladder.specs.Rounding.{truncated}
 use Rattle.ladder.specs.Search.{crossingUp, crossingDown}
 use Rattle.ladder.specs.Search as S
 use Rattle.arith.specs.declared.format.Format.{Format}
-use Rattle.arith.specs.declared.exact.Exact.{Exact}
-use Rattle.arith.specs.declared.rounding.Rounded.{Rounded}
+use Rattle.arith.specs.declared.sum.Exact.{Exact}
+use Rattle.arith.specs.declared.sum.Rounded.{Rounded}
 use Rattle.arith.specs.Exacts.{Amounts}
 
 -- t is twice the midpoint of b and its lower neighbour, less twice a
@@ -28,7 +28,7 @@ doubledOf i j t =
 
 -- half of n units, rounded toward zero, and whether nothing was lost
 unfoldable pub halvedOf : ℕ → ℕ → Rounded
-halvedOf f n = record { place = truncated f (n / 2); exact = eqb (2 * magnitude f (truncated f (n / 2))) n }
+halvedOf f n = record { m = truncated f (n / 2); exact = eqb (2 * magnitude f (truncated f (n / 2))) n }
 
 -- the operands with a sum of at least b are those from x on
 abbrev pub Threshold : Format → ℕ → ℕ → ℕ → Type 0

@@ -9,10 +9,10 @@ ghost use Rattle.arith.specs.Searches.{Spans, Triple, HasB, AtMost, AtMo
 use crate::corner::Corner;
 use crate::corner::Operands;
 use crate::corner::clamped_corner;
-use crate::exact::distance_from_zero;
 use crate::format::Format;
 use crate::operand::Found;
 use crate::operand::least_operand;
+use crate::pattern::distance_from_zero;
 use crate::range::Range;
 use crate::range::max;
 use crate::range::min;

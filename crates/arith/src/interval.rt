@@ -1,9 +1,10 @@
 // Intervals of patterns, with their cut, shift and mirror. Results are written in canonical patterns.
 ghost use mathlib.Core.Path.{_≡_};
 ghost use mathlib.Core.Bool.{true};
-ghost use Rattle.arith.specs.Formats.{Sound, Finite, formatOf};
-ghost use Rattle.arith.specs.Sums.{isFiniteOrdinal};
-ghost use Rattle.arith.specs.Intervals.{Bounded, mirroredEnds, endsFinite, rangeOf, intervalOf, sharedIn, movedIn, translated, canonicalIn, cutIn, shiftIn, mirrorIn, canonicalOf, cutOf, shiftOf, mirrorOf};
+ghost use Rattle.arith.specs.Formats.{Sound, formatOf};
+ghost use Rattle.arith.specs.Intervals.{Bounded, mirroredEnds, endsFinite, rangeOf, intervalOf, sharedIn, canonicalIn, cutIn, shiftIn, mirrorIn};
+ghost use Rattle.arith.specs.Intervals.{canonicalOf, cutOf, shiftOf, mirrorOf};
+ghost use Rattle.arith.specs.Steps.{betweenSums};
 ghost use Rattle.arith.specs.Answers.{cutTold, imageTold};
 ghost use Rattle.arith.specs.Replies.{replyAfter, ownTests, cutTests, shiftTests, canonicalValues, cutValues, shiftValues, mirrorValues};
 use crate::format::Format;
@@ -18,7 +19,8 @@ use crate::range::ordered;
 use crate::range::shared;
 use crate::refusal::Refusal;
 use crate::refusal::refuse;
-use crate::sum::sum_of;
+use crate::sum::Sum;
+use crate::sum::add_finite;
 
 // The floats from low to high, by their patterns.
 pub struct Interval {
@@ -120,39 +122,22 @@ fn cut_in(format: Format, i: Interval, j: Interval) -> Cut
     shared_in(format, shared(own, second))
 }
 
-// Whether an ordinal is a finite float's, and no infinity's.
-fn finite_ordinal(format: Format, r: u64) -> bool
-    requires { ⌜ Sound format ⌝ }
-    ensures { λ b. ⌜ b ≡ isFiniteOrdinal format r ⌝ }
+// The interval between two sums, low's and high's; the first that is refused refuses.
+fn between_sums(low: Sum, high: Sum) -> Image
+    ensures { λ r. ⌜ r ≡ betweenSums low high ⌝ }
 {
-    if r <= format.sign - format.infinity {
-        return false;
-    }
-    r < format.sign + format.infinity
-}
-
-// A moved range, if both ends are finite.
-fn moved_in(format: Format, r: Range) -> Image
-    requires { ⌜ Sound format ⌝ }
-    ensures { λ i. ⌜ i ≡ movedIn format r ⌝ }
-{
-    if !finite_ordinal(format, r.low) {
-        return Image::Refused(refuse(9));
-    }
-    if !finite_ordinal(format, r.high) {
-        return Image::Refused(refuse(9));
-    }
-    Image::Is(interval_of(format, r))
-}
-
-// Both ends moved by c.
-fn translate(format: Format, r: Range, c: u64) -> Range
-    requires { ⌜ (Sound format) × (Bounded format r) × (Finite format c) ⌝ }
-    ensures { λ t. ⌜ t ≡ translated format r c ⌝ }
-{
-    Range {
-        low: sum_of(format, r.low, c),
-        high: sum_of(format, r.high, c),
+    match low {
+        Sum::Is {
+            pattern: p,
+            mark: _,
+        } => match high {
+            Sum::Is {
+                pattern: q,
+                mark: _,
+            } => Image::Is(Interval { low: p, high: q }),
+            Sum::Refused(r) => Image::Refused(r),
+        },
+        Sum::Refused(r) => Image::Refused(r),
     }
 }
 
@@ -167,11 +152,12 @@ fn shift_in(format: Format, i: Interval, c: u64) -> Image
     if !finite(format, c) {
         return Image::Refused(refuse(2));
     }
-    let own = range_of(format, i);
-    if !ordered(own) {
+    if !ordered(range_of(format, i)) {
         return Image::Refused(refuse(3));
     }
-    moved_in(format, translate(format, own, ordinal_of(format, c)))
+    let low = add_finite(format, i.low, c);
+    let high = add_finite(format, i.high, c);
+    between_sums(low, high)
 }
 
 // The ends exchanged, each with the other sign.

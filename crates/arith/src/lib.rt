@@ -1,7 +1,6 @@
 // Arithmetic on binary floating-point patterns at both widths: the forward sum, intervals and the narrowing of one sum. All in integers, so that no answer depends on a floating-point environment. Rests on the crate `ladder`.
 mod clamp;
 mod corner;
-mod exact;
 mod extent;
 pub mod format;
 pub mod interval;
@@ -10,7 +9,6 @@ mod operand;
 mod pattern;
 mod range;
 pub mod refusal;
-mod rounding;
 pub mod sum;
 mod threshold;
 mod words;

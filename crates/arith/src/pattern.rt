@@ -1,6 +1,6 @@
 // Patterns and ordinals: which patterns are finite, the one with the other sign, the ordinal of a pattern of the width, and the one pattern that is written for a finite ordinal.
 ghost use mathlib.Core.Path.{_≡_};
-ghost use Prim.Native.Nat.{_*_, _<_};
+ghost use Prim.Native.Nat.{_+_, _-_, _*_, _<_};
 ghost use Rattle.arith.specs.Formats.{Sound, Finite, isFinite, negated, ordinal, pattern};
 use crate::format::Format;
 
@@ -38,6 +38,16 @@ pub(crate) fn ordinal_of(format: Format, p: u64) -> u64
         return format.sign + p;
     }
     format.sign - (p - format.sign)
+}
+
+// How far an ordinal is from zero's.
+pub(crate) fn distance_from_zero(format: Format, r: u64) -> u64
+    ensures { λ m. ⌜ m ≡ (r - format .sign) + (format .sign - r) ⌝ }
+{
+    if r < format.sign {
+        return format.sign - r;
+    }
+    r - format.sign
 }
 
 // The pattern of a finite ordinal, zero with its sign clear.

@@ -1,23 +1,59 @@
-// The forward sum of two patterns of a width, in the standard's order: the exact sum, that sum rounded, the range test.
+// The forward sum in the order of IEEE 754-2008: the exact sum, that sum rounded, the range test. `exact_sum`, `round_sum` and
+// `range_test` are the steps, each after the functions that it uses; `add_signed` is the three together, and shift and narrowing
+// add by it too. What each promises is said in specs/Steps. Rests on `words`, `format`, `pattern` and `refusal`.
 ghost use mathlib.Core.Path.{_≡_};
-ghost use mathlib.Core.Bool.{cond};
-ghost use Prim.Native.Nat.{_+_, _-_, _≤_};
-ghost use Rattle.arith.specs.Formats.{Sound, Finite, sum};
+ghost use Prim.Native.Nat.{_+_, _*_, _≤_, _<_, _^_};
+ghost use Rattle.arith.specs.Formats.{Sound, Finite, ordinal, pattern, sum};
+ghost use Rattle.arith.specs.Exacts.{partsOf, exactOf, sizeOf, Shaped, Roundable, joinedOf, Scales, leadingOf, roundingOf, Fraction, Digits};
 ghost use Rattle.arith.specs.Sums.{markFor, sumAnswer, addIn, addOf};
+ghost use Rattle.arith.specs.Steps.{FinitePattern, FiniteSigned, Summands, ordinalAt, Represents, Exactly, Rounds, RangeTested, IsSum};
 ghost use Rattle.arith.specs.Answers.{sumTold};
 ghost use Rattle.arith.specs.Replies.{replyAfter, addTests, addValues};
-use crate::exact::exact_sum;
 use crate::format::Format;
 use crate::format::format_of;
 use crate::format::known;
 use crate::pattern::finite;
-use crate::pattern::ordinal_of;
-use crate::pattern::pattern_of;
 use crate::refusal::Refusal;
 use crate::refusal::refuse;
-use crate::rounding::Rounded;
-use crate::rounding::round_sum;
+use crate::words::digits;
+use crate::words::dropped;
 use crate::words::shift_left;
+use crate::words::shift_right;
+use crate::words::sticky;
+
+// A float by its sign and m, its pattern without the sign bit.
+pub(crate) struct Signed {
+    pub(crate) negative: bool,
+    pub(crate) m: u64,
+}
+
+// significand * 2^shift units.
+pub(crate) struct Scaled {
+    pub(crate) significand: u64,
+    pub(crate) shift: u64,
+}
+
+// An exact sum: larger * 2^gap with smaller added, or taken away where the signs are opposite, all times 2^shift units; and its sign.
+pub(crate) struct Exact {
+    pub(crate) negative: bool,
+    pub(crate) opposite: bool,
+    pub(crate) larger: u64,
+    pub(crate) smaller: u64,
+    pub(crate) gap: u64,
+    pub(crate) shift: u64,
+}
+
+// A number of units rounded: its m, and whether nothing was lost.
+pub(crate) struct Rounded {
+    pub(crate) m: u64,
+    pub(crate) exact: bool,
+}
+
+// What the range test leaves: the sum with its mark, or that it overflows, to the infinity of its sign.
+pub(crate) enum Tested {
+    Finite { sum: Signed, mark: u64 },
+    Overflow { infinity: Signed },
+}
 
 // The sum's pattern and mark (0 exact, 1 rounded, 2 rounded and subnormal), or the refusal.
 pub enum Sum {
@@ -25,59 +61,273 @@ pub enum Sum {
     Refused(Refusal),
 }
 
-// 0 exact, 1 rounded, 2 rounded and smaller than the smallest normal.
-fn mark(fraction: u64, r: Rounded) -> u64
+// ---- step 1
+
+// The value of m taken apart. The field above the fraction is the biased exponent; where it is 0 the float is subnormal, else
+// m - (field - 1) * 2^fraction is the fraction with its hidden digit.
+fn decode(fraction: u64, m: u64) -> Scaled
     requires { ⌜ fraction ≤ 52 ⌝ }
-    ensures { λ k. ⌜ k ≡ markFor fraction (r .place) (r .exact) ⌝ }
+    ensures { λ r. ⌜ r ≡ partsOf fraction m ⌝ }
+{
+    let field = shift_right(m, fraction);
+    let shift = if field == 0 { 0 } else { field - 1 };
+    Scaled {
+        significand: m - shift_left(shift, fraction),
+        shift,
+    }
+}
+
+// The exact sum of two floats by their m and n, m no smaller than n; negative is m's sign.
+pub(crate) fn combine(fraction: u64, negative: bool, opposite: bool, m: u64, n: u64) -> Exact
+    requires { ⌜ (fraction ≤ 52) × (n ≤ m) ⌝ }
+    ensures { λ r. ⌜ r ≡ exactOf fraction negative opposite m n ⌝ }
+{
+    let large = decode(fraction, m);
+    let small = decode(fraction, n);
+    Exact {
+        negative,
+        opposite,
+        larger: large.significand,
+        smaller: small.significand,
+        gap: large.shift - small.shift,
+        shift: small.shift,
+    }
+}
+
+// Step 1 (IEEE 754-2008, 5.1): the intermediate result, correct to infinite precision and with unbounded range. Nothing is lost.
+// Its sign is that of the operand larger in size, x's where both are equal.
+fn exact_sum(format: Format, x: Signed, a: Signed) -> Exact
+    requires { ⌜ Summands FiniteSigned format x a ⌝ }
+    ensures { λ r. ⌜ Exactly format (ordinalAt format x) (ordinalAt format a) r ⌝ }
+{
+    let opposite = x.negative != a.negative;
+    let fraction = format.fraction;
+    if a.m <= x.m {
+        return combine(fraction, x.negative, opposite, x.m, a.m);
+    }
+    combine(fraction, a.negative, opposite, a.m, x.m)
+}
+
+// ---- step 2
+
+// larger and smaller, added, or taken away where the signs are opposite.
+fn join(opposite: bool, larger: u64, smaller: u64, shift: u64) -> Scaled
+    requires { ⌜ (larger + smaller < 2 ^ 64) × (smaller ≤ larger) ⌝ }
+    ensures { λ r. ⌜ r ≡ joinedOf opposite larger smaller shift ⌝ }
+{
+    if opposite {
+        return Scaled {
+            significand: larger - smaller,
+            shift,
+        };
+    }
+    Scaled {
+        significand: larger + smaller,
+        shift,
+    }
+}
+
+// One word that rounds as the exact sum does. Where the gap is wider than three, smaller keeps its digits down to the third below
+// larger's last, and one sticky digit for all lower ones. d, the digits beside the first, is for the contract alone.
+pub(crate) fn scale(d: u64, t: Exact) -> Scaled
+    requires { ⌜ (Digits d) × (Shaped d t) ⌝ }
+    ensures { λ r. ⌜ Scales d t r ⌝ }
+{
+    let gap = t.gap;
+    let smaller = t.smaller;
+    if gap <= 3 {
+        return join(t.opposite, shift_left(t.larger, gap), smaller, t.shift);
+    }
+    let drop = gap - 3;
+    let jammed = 2 * shift_right(smaller, drop) + sticky(smaller, drop);
+    join(t.opposite, 16 * t.larger, jammed, t.shift + (drop - 1))
+}
+
+// A number of fraction + 1 + excess digits rounded to fraction + 1; leading has its digits from the top of the word on. One up where
+// the rest is over half a step, or half a step beside an odd significand; a carry runs on into the exponent. m fits a word.
+fn round_leading(fraction: u64, leading: u64, excess: u64) -> Rounded
+    requires { ⌜ (Fraction fraction) × (excess * 2 ^ fraction ≤ 2 ^ 63 + 2 ^ 62) ⌝ }
+    ensures { λ r. ⌜ r ≡ leadingOf fraction leading excess ⌝ }
+{
+    let low = 63 - fraction;
+    let significand = shift_right(leading, low);
+    let rest = dropped(leading, low);
+    let half = shift_left(1, low - 1);
+    let up = if half < rest + significand % 2 { 1 } else { 0 };
+    Rounded {
+        m: shift_left(excess, fraction) + significand + up,
+        exact: rest == 0,
+    }
+}
+
+// n * 2^shift units, rounded. Of at most fraction + 1 digits every one is kept.
+fn round_units(fraction: u64, n: u64, shift: u64) -> Rounded
+    requires { ⌜ (Fraction fraction) × (shift * 2 ^ fraction ≤ 2 ^ 63) ⌝ }
+    ensures { λ r. ⌜ r ≡ roundingOf fraction (n * 2 ^ shift) ⌝ }
+{
+    if n == 0 {
+        return Rounded { m: 0, exact: true };
+    }
+    let size = digits(n);
+    if size + shift <= fraction + 1 {
+        return Rounded {
+            m: shift_left(n, shift),
+            exact: true,
+        };
+    }
+    let leading = shift_left(n, 64 - size);
+    round_leading(fraction, leading, size + shift - (fraction + 1))
+}
+
+// Step 2 (IEEE 754-2008, 4.3.1, roundTiesToEven): the size of the exact sum, rounded to the nearest float, of two equally near ones
+// to the one with an even last digit; as if no exponent were too large. To nearest the sign does not matter.
+fn round_sum(fraction: u64, t: Exact) -> Rounded
+    requires { ⌜ Roundable fraction t ⌝ }
+    ensures { λ r. ⌜ Rounds fraction (sizeOf t) r ⌝ }
+{
+    let s = scale(fraction, t);
+    round_units(fraction, s.significand, s.shift)
+}
+
+// ---- step 3
+
+// 0 exact, 1 rounded, 2 rounded and smaller than the smallest normal, whose m is 2^fraction: sign - infinity.
+fn mark(format: Format, r: Rounded) -> u64
+    requires { ⌜ Sound format ⌝ }
+    ensures { λ k. ⌜ k ≡ markFor (format .fraction) (r .m) (r .exact) ⌝ }
 {
     if r.exact {
         return 0;
     }
-    if r.place < shift_left(1, fraction) {
+    if r.m < format.sign - format.infinity {
         return 2;
     }
     1
 }
 
-// The ordinal of a sign and a magnitude's pattern, at most infinity's.
-fn signed(format: Format, negative: bool, m: u64) -> u64
-    requires { ⌜ (Sound format) × (m ≤ format .infinity) ⌝ }
-    ensures { λ r. ⌜ r ≡ cond negative (format .sign - m) (format .sign + m) ⌝ }
+// Step 3 (IEEE 754-2008, 7.4): the range test. The sum overflows, which is refusal 9, exactly where the rounded size passes the
+// largest finite float, whose m is the one before infinity's; else sign and m make its pattern, and it has its mark.
+fn range_test(format: Format, negative: bool, r: Rounded) -> Tested
+    requires { ⌜ Sound format ⌝ }
+    ensures { λ s. ⌜ RangeTested format negative r s ⌝ }
 {
-    if negative {
-        return format.sign - m;
+    if format.infinity <= r.m {
+        return Tested::Overflow {
+            infinity: Signed {
+                negative,
+                m: format.infinity,
+            },
+        };
     }
-    format.sign + m
+    Tested::Finite {
+        sum: Signed { negative, m: r.m },
+        mark: mark(format, r),
+    }
+}
+
+// ---- the three together
+
+// The sum of two finite floats, in the standard's order.
+fn add_signed(format: Format, x: Signed, a: Signed) -> Tested
+    requires { ⌜ Summands FiniteSigned format x a ⌝ }
+    ensures { λ s. ⌜ IsSum format (ordinalAt format x) (ordinalAt format a) s ⌝ }
+{
+    let t = exact_sum(format, x, a);
+    let r = round_sum(format.fraction, t);
+    range_test(format, t.negative, r)
+}
+
+impl Signed {
+    // The float of a finite ordinal.
+    fn from_ordinal(format: Format, r: u64) -> Self
+        requires { ⌜ (Sound format) × (Finite format r) ⌝ }
+        ensures { λ z. ⌜ Represents format r z ⌝ }
+    {
+        if r < format.sign {
+            return Signed {
+                negative: true,
+                m: format.sign - r,
+            };
+        }
+        Signed {
+            negative: false,
+            m: r - format.sign,
+        }
+    }
+
+    // The float of a finite pattern.
+    fn from_pattern(format: Format, p: u64) -> Self
+        requires { ⌜ (Sound format) × (FinitePattern format p) ⌝ }
+        ensures { λ z. ⌜ Represents format (ordinal format p) z ⌝ }
+    {
+        if p < format.sign {
+            return Signed {
+                negative: false,
+                m: p,
+            };
+        }
+        Signed {
+            negative: true,
+            m: p - format.sign,
+        }
+    }
+
+    // Its ordinal, an infinity's too.
+    fn ordinal(self, format: Format) -> u64
+        requires { ⌜ (Sound format) × (self .m ≤ format .infinity) ⌝ }
+        ensures { λ r. ⌜ r ≡ ordinalAt format self ⌝ }
+    {
+        if self.negative {
+            return format.sign - self.m;
+        }
+        format.sign + self.m
+    }
+
+    // Its pattern. Zero has its sign clear, whatever the signs of the operands, as 01 has it; 6.3 of the standard keeps that of -0 + -0.
+    fn pattern(self, format: Format) -> u64
+        requires { ⌜ (Sound format) × (FiniteSigned format self) ⌝ }
+        ensures { λ p. ⌜ p ≡ pattern format (ordinalAt format self) ⌝ }
+    {
+        if self.m == 0 {
+            return 0;
+        }
+        if self.negative {
+            return format.sign + self.m;
+        }
+        self.m
+    }
 }
 
 // The sum of two finite ordinals: an infinity's ordinal where no finite sum exists.
 pub(crate) fn sum_of(format: Format, x: u64, a: u64) -> u64
-    requires { ⌜ (Sound format) × (Finite format x) × (Finite format a) ⌝ }
+    requires { ⌜ Summands Finite format x a ⌝ }
     ensures { λ r. ⌜ r ≡ sum format x a ⌝ }
 {
-    let t = exact_sum(format, x, a);
-    let fraction = format.fraction;
-    let r = round_sum(fraction, t);
-    if format.infinity <= r.place {
-        return signed(format, t.negative, format.infinity);
+    match add_signed(
+        format,
+        Signed::from_ordinal(format, x),
+        Signed::from_ordinal(format, a),
+    ) {
+        Tested::Finite { sum, mark: _ } => sum.ordinal(format),
+        Tested::Overflow { infinity } => infinity.ordinal(format),
     }
-    signed(format, t.negative, r.place)
 }
 
-// The answer for two finite ordinals.
-fn add_finite(format: Format, x: u64, a: u64) -> Sum
-    requires { ⌜ (Sound format) × (Finite format x) × (Finite format a) ⌝ }
-    ensures { λ r. ⌜ r ≡ sumAnswer format x a ⌝ }
+// The answer for two finite patterns: refusal 9, or pattern and mark.
+pub(crate) fn add_finite(format: Format, x: u64, a: u64) -> Sum
+    requires { ⌜ Summands FinitePattern format x a ⌝ }
+    ensures { λ r. ⌜ r ≡ sumAnswer format (ordinal format x) (ordinal format a) ⌝ }
 {
-    let t = exact_sum(format, x, a);
-    let fraction = format.fraction;
-    let r = round_sum(fraction, t);
-    if format.infinity <= r.place {
-        return Sum::Refused(refuse(9));
-    }
-    Sum::Is {
-        pattern: pattern_of(format, signed(format, t.negative, r.place)),
-        mark: mark(fraction, r),
+    match add_signed(
+        format,
+        Signed::from_pattern(format, x),
+        Signed::from_pattern(format, a),
+    ) {
+        Tested::Finite { sum, mark } => Sum::Is {
+            pattern: sum.pattern(format),
+            mark,
+        },
+        Tested::Overflow { infinity: _ } => Sum::Refused(refuse(9)),
     }
 }
 
@@ -92,7 +342,7 @@ fn add_in(format: Format, x: u64, a: u64) -> Sum
     if !finite(format, a) {
         return Sum::Refused(refuse(2));
     }
-    add_finite(format, ordinal_of(format, x), ordinal_of(format, a))
+    add_finite(format, x, a)
 }
 
 // The sum of two patterns with its mark; refusals 1, 2 for x then a, 9, in this order.

@@ -4,12 +4,12 @@ ghost use Prim.Native.Nat.{_*_, _≤_, _<_, _^_};
 ghost use Rattle.arith.specs.Formats.{Sound, Finite};
 ghost use Rattle.arith.specs.Exacts.{Fraction};
 ghost use Rattle.arith.specs.Thresholds.{Crosses, doubledOf, halvedOf, Threshold};
-use crate::exact::Exact;
-use crate::exact::combine;
-use crate::exact::distance_from_zero;
 use crate::format::Format;
-use crate::rounding::Rounded;
-use crate::rounding::scale;
+use crate::pattern::distance_from_zero;
+use crate::sum::Exact;
+use crate::sum::Rounded;
+use crate::sum::combine;
+use crate::sum::scale;
 use crate::words::digits;
 use crate::words::dropped;
 use crate::words::shift_left;
@@ -58,10 +58,7 @@ fn halve(fraction: u64, n: u64, shift: u64) -> Rounded
     ensures { λ r. ⌜ r ≡ halvedOf fraction (n * 2 ^ shift) ⌝ }
 {
     if n == 0 {
-        return Rounded {
-            place: 0,
-            exact: true,
-        };
+        return Rounded { m: 0, exact: true };
     }
     let size = digits(n) + shift;
     let drop = if fraction + 2 < size {
@@ -72,13 +69,13 @@ fn halve(fraction: u64, n: u64, shift: u64) -> Rounded
     let base = shift_left(drop, fraction);
     if drop + 1 < shift {
         return Rounded {
-            place: base + shift_left(n, shift - (drop + 1)),
+            m: base + shift_left(n, shift - (drop + 1)),
             exact: true,
         };
     }
     let low = drop + 1 - shift;
     Rounded {
-        place: base + shift_right(n, low),
+        m: base + shift_right(n, low),
         exact: dropped(n, low) == 0,
     }
 }
@@ -95,8 +92,8 @@ pub(crate) fn threshold(format: Format, a: u64, b: u64) -> u64
     let r = halve(fraction, s.significand, s.shift);
     if t.negative {
         let up = if r.exact { b % 2 } else { 0 };
-        return zero + up - r.place;
+        return zero + up - r.m;
     }
     let up = if r.exact { b % 2 } else { 1 };
-    zero + r.place + up
+    zero + r.m + up
 }

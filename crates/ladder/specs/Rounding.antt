@@ -1,5 +1,5 @@
 -- A whole number of units, rounded to the nearest m, at a tie to the even m, as if no exponent were too large. Rests on the kit's `size`, the number of binary digits, and
--- `closest`, a quotient rounded to nearest even. That the result is the nearest is a law of proofs/Rounding. Assumes nothing.
+-- `closest`, a quotient rounded to nearest even. That the result is the nearest is `round-nearest-size` (proofs/Nearest). Assumes nothing.
 use Prim.Native.Nat.{ℕ, suc, _+_, _-_, _*_, _/_, _^_}
 use lib.Ieee.{size}
 use lib.Ieee.Nearest.{closest}

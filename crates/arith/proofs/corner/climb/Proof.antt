@@ -41,7 +41,7 @@ returns c =
     climb-none (F .fraction) (F .exponent) (z .pre .0 .some) (span (z .args .x)) (span (z .args .a)) (span (z .args .b)) (z .pre .4) (z .pre .5) n
 
 sum-of-requires : tie.Need-sum-of-requires
-sum-of-requires c κs = let z = c .before .before .before .before in (z .pre .0, up-finite c, z .pre .2 .high)
+sum-of-requires c κs = let z = c .before .before .before .before in record { sound = z .pre .0; x-finite = up-finite c; a-finite = z .pre .2 .high }
 
 returns-2 : tie.Need-returns-2
 returns-2 c =
@@ -70,7 +70,11 @@ sum-of-requires-2 : tie.Need-sum-of-requires-2
 sum-of-requires-2 c κs =
     let z = c .before .before .before .before .before .before .before .before .before .before .before in
     let F = z .args .format in
-    (z .pre .0, up-finite (c .before .before .before .before .before .before .before), finite-in (F .fraction) (F .exponent) (span (z .args .a)) (z .pre .2) _ (down c .holds .inside))
+    record {
+      sound = z .pre .0;
+      x-finite = up-finite (c .before .before .before .before .before .before .before);
+      a-finite = finite-in (F .fraction) (F .exponent) (span (z .args .a)) (z .pre .2) _ (down c .holds .inside);
+    }
 
 returns-4 : tie.Need-returns-4
 returns-4 c =

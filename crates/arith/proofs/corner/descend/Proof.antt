@@ -41,7 +41,7 @@ returns c =
     descend-none (F .fraction) (F .exponent) (z .pre .0 .some) (span (z .args .x)) (span (z .args .a)) (span (z .args .b)) (z .pre .4) (z .pre .5) n
 
 sum-of-requires : tie.Need-sum-of-requires
-sum-of-requires c κs = let z = c .before .before .before .before in (z .pre .0, z .pre .1 .low, down-finite c)
+sum-of-requires c κs = let z = c .before .before .before .before in record { sound = z .pre .0; x-finite = z .pre .1 .low; a-finite = down-finite c }
 
 returns-2 : tie.Need-returns-2
 returns-2 c =
@@ -70,7 +70,11 @@ sum-of-requires-2 : tie.Need-sum-of-requires-2
 sum-of-requires-2 c κs =
     let z = c .before .before .before .before .before .before .before .before .before .before .before in
     let F = z .args .format in
-    (z .pre .0, finite-in (F .fraction) (F .exponent) (span (z .args .x)) (z .pre .1) _ (up c .holds .inside), down-finite (c .before .before .before .before .before .before .before))
+    record {
+      sound = z .pre .0;
+      x-finite = finite-in (F .fraction) (F .exponent) (span (z .args .x)) (z .pre .1) _ (up c .holds .inside);
+      a-finite = down-finite (c .before .before .before .before .before .before .before);
+    }
 
 returns-4 : tie.Need-returns-4
 returns-4 c =

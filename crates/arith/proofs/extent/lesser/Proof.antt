@@ -27,7 +27,11 @@ sum-of-requires : tie.Need-sum-of-requires
 sum-of-requires c κs =
     let z = c .before .before .before .before in
     let F = z .args .format in
-    (z .pre .0, finite-in (F .fraction) (F .exponent) (span (z .args .x)) (z .pre .1) _ (found c .holds .inside), finite-in (F .fraction) (F .exponent) (span (z .args .a)) (z .pre .2) _ (record { low = z .pre .4; high = z .pre .5 }))
+    record {
+      sound = z .pre .0;
+      x-finite = finite-in (F .fraction) (F .exponent) (span (z .args .x)) (z .pre .1) _ (found c .holds .inside);
+      a-finite = finite-in (F .fraction) (F .exponent) (span (z .args .a)) (z .pre .2) _ (record { low = z .pre .4; high = z .pre .5 });
+    }
 
 min-requires : tie.Need-min-requires
 min-requires c κs = search needs

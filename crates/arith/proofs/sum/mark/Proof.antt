@@ -3,27 +3,24 @@ use borrow.Author.Needs.{needs}
 use Prim.Native.Nat.{_^_, _<_, _≤_}
 use native.Mathlib.Omega.{arith}
 use borrow.Author.Tests.{lt-ltb, le-ltb}
-use Rattle.arith.proofs.Shifting.{pow-word}
+use Rattle.arith.proofs.Formats.{infinity-lt, smallest-normal}
 use Rattle.arith.proofs.sum.mark.Statement.{statement}
 use Rattle.arith.proofs.sum.mark.Tie as tie
 
-returns : tie.Need-returns
-returns c = search needs
-
-shift-left-requires : tie.Need-shift-left-requires
-shift-left-requires c κs = (omega arith, pow-word _ (omega arith))
+sub-if2 : tie.Need-sub-if2
+sub-if2 c = let s = c .before .before in omega (arith, infinity-lt (s .args .format) (s .pre))
 
 returns-2 : tie.Need-returns-2
 returns-2 c =
-    let a = c .before .before .before .before .args in
-    let l : a .r .place < 2 ^ a .fraction = omega arith in
+    let s = c .before .before .before .before in
+    let l : s .args .r .m < 2 ^ s .args .format .fraction = omega (arith, smallest-normal (s .args .format) (s .pre)) in
     simp (c .before .before .before .if1 .left, lt-ltb _ _ l)
 
 returns-3 : tie.Need-returns-3
 returns-3 c =
-    let a = c .before .before .before .before .args in
-    let l : 2 ^ a .fraction ≤ a .r .place = omega arith in
+    let s = c .before .before .before .before in
+    let l : 2 ^ s .args .format .fraction ≤ s .args .r .m = omega (arith, smallest-normal (s .args .format) (s .pre)) in
     simp (c .before .before .before .if1 .left, le-ltb _ _ l)
 
 pub mark-spec : {M : Type 1} → statement M
-mark-spec = tie.close (tie.spec returns shift-left-requires returns-2 returns-3)
+mark-spec = tie.close (tie.spec (λ c. search needs) sub-if2 returns-2 returns-3)

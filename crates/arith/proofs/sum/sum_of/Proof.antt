@@ -1,34 +1,38 @@
 -- `arith::sum::sum_of` meets its contract. Assumes nothing.
 use borrow.Author.Needs.{needs}
-use Rattle.arith.proofs.Sums.{sum-large, sum-in}
+use mathlib.Core.Path.{_∙_}
+use native.Mathlib.Omega.{arith}
+use Rattle.arith.specs.declared.sum.Tested.the-variants.{Finite, Overflow}
+use Rattle.arith.specs.Steps.{IsSum}
+use Rattle.arith.proofs.Sums.{matched}
 use Rattle.arith.proofs.sum.sum_of.Statement.{statement}
 use Rattle.arith.proofs.sum.sum_of.Tie as tie
 
-exact-sum-requires : tie.Need-exact-sum-requires
-exact-sum-requires c κs = search needs
+in-range : (c : tie.After-known-told) → let a = c .before .before .before .before .before .before .args in
+    IsSum (a .format) (a .x) (a .a) (Finite (c .before .sum .given .0 .0) (c .before .sum .given .0 .1 .0))
+in-range c =
+    let s = c .before .before .before in
+    matched (s .before .before .from-ordinal .ensures) (s .before .from-ordinal2 .ensures) (c .before .sum .given .1) (s .add-signed .ensures)
 
-round-sum-requires : tie.Need-round-sum-requires
-round-sum-requires c κs = search needs
+overflowed : (c : tie.After-known-told2) → let a = c .before .before .before .before .before .before .args in
+    IsSum (a .format) (a .x) (a .a) (Overflow (c .before .infinity .given .0 .0))
+overflowed c =
+    let s = c .before .before .before in
+    matched (s .before .before .from-ordinal .ensures) (s .before .from-ordinal2 .ensures) (c .before .infinity .given .1) (s .add-signed .ensures)
 
-signed-requires : tie.Need-signed-requires
-signed-requires c κs = search needs
+ordinal-requires : tie.Need-ordinal-requires
+ordinal-requires c κs = (c .before .before .before .before .before .before .pre .sound, omega (arith, in-range c .within))
+
+ordinal-requires-2 : tie.Need-ordinal-requires-2
+ordinal-requires-2 c κs = (c .before .before .before .before .before .before .pre .sound, omega (arith, overflowed c .within))
 
 returns : tie.Need-returns
-returns c =
-    let s = c .before .before .before .before .before .before in
-    let e = c .before .before .before .before .before .exact-sum in
-    let r = c .before .before .before .before .round-sum in
-    sum-large (s .args .format) (s .args .x) (s .args .a) (e .result) (r .result) (s .pre .0) (e .ensures) (r .ensures) (c .signed .result) (c .before .if1 .taken) (c .signed .ensures)
-
-signed-requires-2 : tie.Need-signed-requires-2
-signed-requires-2 c κs = search needs
+returns c = c .ordinal .ensures ∙ in-range (c .before) .ordinal
 
 returns-2 : tie.Need-returns-2
-returns-2 c =
-    let s = c .before .before .before .before .before .before in
-    let e = c .before .before .before .before .before .exact-sum in
-    let r = c .before .before .before .before .round-sum in
-    sum-in (s .args .format) (s .args .x) (s .args .a) (e .result) (r .result) (s .pre .0) (e .ensures) (r .ensures) (c .signed2 .result) (c .before .if1 .left) (c .signed2 .ensures)
+returns-2 c = c .ordinal2 .ensures ∙ overflowed (c .before) .ordinal
 
 pub sum-of-spec : {M : Type 1} → statement M
-sum-of-spec = tie.close (tie.spec exact-sum-requires round-sum-requires signed-requires returns signed-requires-2 returns-2)
+sum-of-spec =
+    tie.close
+    (tie.spec (λ c κs. search needs) (λ c κs. search needs) (λ c κs. search needs) (λ c. search needs) ordinal-requires (λ c. search needs) ordinal-requires-2 returns returns-2)

@@ -7,7 +7,8 @@ use native.Mathlib.Omega.{arith}
 use borrow.Author.Needs.{needs}
 use lib.Dec.{eqb}
 use lib.Ieee.{size}
-use Rattle.arith.proofs.Halving.{halved-zero, digits-fit, shift-fits, place-fits, kept-fits, halved-left, few-left, halved-right, few-right}
+use Rattle.arith.proofs.Roundings.{digits-fit, shift-fits, excess-fits}
+use Rattle.arith.proofs.Halving.{halved-zero, halved-left, few-left, halved-right, few-right}
 use Rattle.arith.proofs.threshold.halve.Statement.{statement}
 use Rattle.arith.proofs.threshold.halve.Tie as tie
 
@@ -15,11 +16,12 @@ use Rattle.arith.proofs.threshold.halve.Tie as tie
 drops : (c : tie.Joined2) → let z = c .before .before .before .args in c .if2 .drop ≡ (size (z .n) + z .shift) - (z .fraction + 2)
 drops c = let e = c .before .digits .ensures in ⊎-elim (λ g. omega (arith, e, g .1)) (λ g. omega (arith, e, g .1)) (c .if2 .came)
 
--- the place has room on top of it
+-- there is room for what is kept on top of the binades dropped
 room : (c : tie.Joined2) → let z = c .before .before .before .args in (c .if2 .drop * 2 ^ z .fraction + 2 ^ 53 < 2 ^ 64) × (z .shift ≤ 2 ^ 62)
 room c =
     let z = c .before .before .before in
-    (place-fits (z .args .fraction) (z .args .n) (z .args .shift) (z .pre .0) (omega arith) (z .pre .1) (c .if2 .drop) (drops c), shift-fits (z .args .fraction) (z .args .n) (z .args .shift) (z .pre .0) (omega arith) (z .pre .1))
+    let e = excess-fits (z .args .fraction) (z .args .n) (z .args .shift) (z .pre .0) (omega arith) (z .pre .1) (c .if2 .drop) (omega (arith, drops c)) in
+    (omega arith, shift-fits (z .args .fraction) (z .args .n) (z .args .shift) (z .pre .0) (omega arith) (z .pre .1))
 
 returns : tie.Need-returns
 returns c = let z = c .before .args in halved-zero (z .fraction) (z .n) (z .shift) (c .if1 .taken)
@@ -56,23 +58,23 @@ shift-left-requires-2 c κs =
     let j = c .before .before .before in
     let z = j .before .before .before in
     let k : ℕ = z .args .shift - (j .if2 .drop + 1) in
-    let few = few-left (z .args .fraction) (z .args .n) (z .args .shift) (omega arith) (j .if2 .drop) k (drops j) (omega arith) in
-    (omega (arith, drops j, z .pre .0 .1), omega (arith, kept-fits (z .args .fraction) (z .args .n) (z .args .shift) (z .pre .0) (omega arith) (z .pre .1) (j .if2 .drop) (drops j) _ few))
+    let few = few-left (z .args .fraction) (z .args .n) (z .args .shift) (omega arith) (j .if2 .drop) k (drops j) (omega arith) (z .pre .0) in
+    (omega (arith, drops j, z .pre .0 .1), omega arith)
 
 add-t15 : tie.Need-add-t15
 add-t15 c =
     let j = c .before .before .before .before in
     let z = j .before .before .before in
     let k : ℕ = z .args .shift - (j .if2 .drop + 1) in
-    let few = few-left (z .args .fraction) (z .args .n) (z .args .shift) (omega arith) (j .if2 .drop) k (drops j) (omega arith) in
-    omega (arith, room j .0, kept-fits (z .args .fraction) (z .args .n) (z .args .shift) (z .pre .0) (omega arith) (z .pre .1) (j .if2 .drop) (drops j) _ few)
+    let few = few-left (z .args .fraction) (z .args .n) (z .args .shift) (omega arith) (j .if2 .drop) k (drops j) (omega arith) (z .pre .0) in
+    omega (arith, room j .0)
 
 returns-2 : tie.Need-returns-2
 returns-2 c =
     let j = c .before .before .before .before in
     let z = j .before .before .before in
     let k : ℕ = z .args .shift - (j .if2 .drop + 1) in
-    ap₂ (λ (x y : ℕ). record { place = x + y; exact = true }) (c .before .before .before .shift-left .ensures) (c .shift-left2 .ensures)
+    ap₂ (λ (x y : ℕ). record { m = x + y; exact = true }) (c .before .before .before .shift-left .ensures) (c .shift-left2 .ensures)
     ∙ halved-left (z .args .fraction) (z .args .n) (z .args .shift) (omega arith) (j .if2 .drop) k (drops j) (omega arith)
 
 add-low : tie.Need-add-low
@@ -89,8 +91,8 @@ add-t16 c =
     let j = c .before .before .before .before in
     let z = j .before .before .before in
     let k : ℕ = j .if2 .drop + 1 - z .args .shift in
-    let few = few-right (z .args .fraction) (z .args .n) (z .args .shift) (omega arith) (j .if2 .drop) k (drops j) (omega arith) in
-    omega (arith, room j .0, kept-fits (z .args .fraction) (z .args .n) (z .args .shift) (z .pre .0) (omega arith) (z .pre .1) (j .if2 .drop) (drops j) _ few)
+    let few = few-right (z .args .fraction) (z .args .n) (z .args .shift) (omega arith) (j .if2 .drop) k (drops j) (omega arith) (z .pre .0) in
+    omega (arith, room j .0)
 
 dropped-requires : tie.Need-dropped-requires
 dropped-requires c κs = tt
@@ -100,8 +102,8 @@ returns-3 c =
     let j = c .before .before .before .before .before in
     let z = j .before .before .before in
     let k : ℕ = j .if2 .drop + 1 - z .args .shift in
-    ap₂ (λ (x y : ℕ). record { place = x + y; exact = eqb (c .dropped .result) 0 }) (c .before .before .before .before .shift-left .ensures) (c .before .shift-right .ensures)
-    ∙ ap (λ (x : ℕ). record { place = j .if2 .drop * 2 ^ z .args .fraction + z .args .n / 2 ^ k; exact = eqb x 0 }) (c .dropped .ensures)
+    ap₂ (λ (x y : ℕ). record { m = x + y; exact = eqb (c .dropped .result) 0 }) (c .before .before .before .before .shift-left .ensures) (c .before .shift-right .ensures)
+    ∙ ap (λ (x : ℕ). record { m = j .if2 .drop * 2 ^ z .args .fraction + z .args .n / 2 ^ k; exact = eqb x 0 }) (c .dropped .ensures)
     ∙ halved-right (z .args .fraction) (z .args .n) (z .args .shift) (omega arith) (j .if2 .drop) k (drops j) (omega arith)
 
 pub halve-spec : {M : Type 1} → statement M
