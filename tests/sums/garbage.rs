@@ -7,7 +7,7 @@ use crate::{BEFORE, arguments, library};
 use std::collections::BTreeMap;
 
 /// The answer that is due: 1 for a width that is not known, before any other.
-fn due(width: u64, [x, a]: [u64; 2]) -> (u64, [u64; 2]) {
+fn due(width: u64, [x, a]: [u64; 2]) -> (u64, [u64; 3]) {
     match width {
         32 => answer::<Binary32>(&sum::<Binary32>(x, a), BEFORE),
         64 => answer::<Binary64>(&sum::<Binary64>(x, a), BEFORE),

@@ -1,4 +1,4 @@
-//! Pairs of finite patterns, of nine kinds. A size is a pattern without its sign.
+//! Pairs of finite patterns, of ten kinds. A size is a pattern without its sign.
 
 use crate::cases::{power, top};
 use crate::floats::{Place, Width};
@@ -12,18 +12,19 @@ pub struct Kind {
     pub met: fn(&Tally) -> bool,
 }
 
-pub fn all<W: Width>() -> [Kind; 9] {
+pub fn all<W: Width>() -> [Kind; 10] {
     let kind = |name, pair, met| Kind { name, pair, met };
     [
-        kind("any two", any_two::<W>, |t| t.rounded > 0),
-        kind("near sizes", near_sizes::<W>, |t| t.rounded > 0 && t.exact() > 0),
+        kind("any two", any_two::<W>, |t| t.rounded > 0 && t.far > 0),
+        kind("near sizes", near_sizes::<W>, |t| t.rounded > 0 && t.exact() > 0 && t.carried > 0 && t.went_up > 0),
         kind("opposite signs", opposite_signs::<W>, |t| t.rounded > 0 && t.exact() > 0),
         kind("equal sizes", equal_sizes::<W>, |t| t.exact() > 0 && t.too_large > 0),
         kind("powers of two", two_powers::<W>, |t| t.rounded > 0 && t.exact() > 0),
         kind("ties", at_ties::<W>, |t| t.ties > t.compared / 20),
         kind("ties at powers of two", at_power_ties::<W>, |t| t.ties > t.compared / 20),
-        kind("subnormal", about_subnormal::<W>, |t| t.subnormal > 0 && t.rounded > 0),
+        kind("subnormal", about_subnormal::<W>, |t| t.subnormal > 0 && t.rounded > 0 && t.tiny > 0),
         kind("largest", about_largest::<W>, |t| t.rounded > 0 && t.too_large > 0),
+        kind("largest and a few of its steps", steps_from_largest::<W>, |t| t.rounded > 0 && t.by_integers > 0),
     ]
 }
 
@@ -134,4 +135,12 @@ fn almost_largest<W: Width>(words: &mut Words) -> Place {
 fn about_largest<W: Width>(words: &mut Words) -> [u64; 2] {
     let (p, q) = (almost_largest::<W>(words), almost_largest::<W>(words));
     if words.coin() { tie_at::<W>(words, p) } else { [signed::<W>(words, p), signed::<W>(words, q)] }
+}
+
+/// The largest float or one a few below it, and some eighths of a power of two about its last step: sums near to overflowing.
+fn steps_from_largest<W: Width>(words: &mut Words) -> [u64; 2] {
+    let p = W::LARGEST - words.between(0, 3);
+    let step = power::<W>((W::LARGEST >> W::FRACTION) - 1 + words.between(-2, 2));
+    let q = step + (words.between(0, 7) << (W::FRACTION - 3));
+    [signed::<W>(words, p), signed::<W>(words, q)]
 }

@@ -1,5 +1,5 @@
 -- Twice the midpoint of b and its lower neighbour, less twice a, as an exact difference in half units. Rests on `ladder`'s Magnitude and Ordinals.
-use mathlib.Core.Path.{_≡_, sym, ap, ap₂, _∙_, subst}
+use mathlib.Core.Path.{_≡_, sym, ap, ap₂, _∙_}
 use mathlib.Core.Logic.{_⊎_, inl, inr}
 use mathlib.Core.Bool.{Bool, true, false, cond}
 use Prim.Native.Nat.{ℕ, suc, _+_, _-_, _*_, _^_, _≤_, _<_}
@@ -29,9 +29,9 @@ abbrev middle : ℕ → ℕ → ℕ
 middle f m = magnitude f m + magnitude f (suc m)
 
 -- ---- the doubled significands
-module _ (f m n : ℕ) (s o : Bool) (h : n ≤ m) where
+module _ (f m n : ℕ) (o : Bool) (h : n ≤ m) where
   abbrev e : Exact
-  e = exactOf f s o m n
+  e = exactOf f o m n
 
   step : 2 ^ e .gap * 2 ^ e .shift ≡ 2 ^ shift f m
   step = pow-gap (shift f n) (shift f m) (shift-le f m n h)
@@ -40,14 +40,14 @@ module _ (f m n : ℕ) (s o : Bool) (h : n ≤ m) where
   size-first : sizeOf (doubledOf 1 0 e) ≡ cond o (middle f m - 2 * magnitude f n) (middle f m + 2 * magnitude f n)
   size-first =
       size-is (doubledOf 1 0 e) (middle f m) (2 * magnitude f n)
-      (omega (arith, large f m n s o h, magnitude-suc f m, step))
+      (omega (arith, large f m n o h, magnitude-suc f m, step))
       (omega (arith, magnitude-parts f n))
 
   -- the midpoint beyond n is the smaller part
   size-second : sizeOf (doubledOf 0 1 e) ≡ cond o (2 * magnitude f m - middle f n) (2 * magnitude f m + middle f n)
   size-second =
       size-is (doubledOf 0 1 e) (2 * magnitude f m) (middle f n)
-      (omega (arith, large f m n s o h))
+      (omega (arith, large f m n o h))
       (omega (arith, magnitude-parts f n, magnitude-suc f n))
 
   twice : 2 ^ (f + 1) ≡ 2 * 2 ^ f
@@ -59,7 +59,7 @@ module _ (f m n : ℕ) (s o : Bool) (h : n ≤ m) where
 
   module _ (l : m ≤ 2 ^ 63) where
     shaped-first : Shaped (f + 1) (doubledOf 1 0 e)
-    shaped-first = let p = shaped f m n s o h l in record {
+    shaped-first = let p = shaped f m n o h l in record {
       larger = omega (arith, p .larger, twice);
       smaller = omega (arith, p .smaller, twice);
       leading = leading 1 (p .leading);
@@ -69,8 +69,8 @@ module _ (f m n : ℕ) (s o : Bool) (h : n ≤ m) where
 
     shaped-second : n < m → Shaped (f + 1) (doubledOf 0 1 e)
     shaped-second g =
-        let p = shaped f m n s o h l in
-        let q : e .smaller < e .larger * 2 ^ e .gap = lt-of-mul-lt-mul-right (2 ^ e .shift) (omega (arith, large f m n s o h, magnitude-parts f n, magnitude-lt f n m g)) in
+        let p = shaped f m n o h l in
+        let q : e .smaller < e .larger * 2 ^ e .gap = lt-of-mul-lt-mul-right (2 ^ e .shift) (omega (arith, large f m n o h, magnitude-parts f n, magnitude-lt f n m g)) in
         record {
           larger = omega (arith, p .larger, twice);
           smaller = omega (arith, p .smaller, twice);
@@ -80,8 +80,8 @@ module _ (f m n : ℕ) (s o : Bool) (h : n ≤ m) where
         }
 
 -- significands that `double` has room for
-pub combined-fits : (f m n : ℕ) (s o : Bool) (t : Exact) → f ≤ 52 → n ≤ m → t ≡ exactOf f s o m n → (2 * t .larger < 2 ^ 63) × (2 * t .smaller < 2 ^ 63)
-combined-fits f m n s o t few h E =
+pub combined-fits : (f m n : ℕ) (o : Bool) (t : Exact) → f ≤ 52 → n ≤ m → t ≡ exactOf f o m n → (2 * t .larger < 2 ^ 63) × (2 * t .smaller < 2 ^ 63)
+combined-fits f m n o t few h E =
     let p = pow-mono {j = 52} few in
     (omega (arith, p, parts f m .below, ap (λ (x : Exact). x .larger) E), omega (arith, p, parts f n .below, ap (λ (x : Exact). x .smaller) E))
 
@@ -125,26 +125,25 @@ module _ (F : Format) (a b m n : ℕ) (ok : Sound F) (A : Finite F a) (B : Finit
     abbrev o : Bool
     o = apart (leb b z) (ltb z a)
 
-    pub crosses-first : n ≤ m → (t : Exact) → t ≡ doubledOf 1 0 (exactOf f (leb b z) o m n) → Crosses F a b t
+    pub crosses-first : n ≤ m → (t : Exact) → t ≡ doubledOf 1 0 (exactOf f o m n) → Crosses F a b (record { negative = leb b z; size = t })
     crosses-first h t E =
-        let e = exactOf f (leb b z) o m n in
-        let g = size-first f m n (leb b z) o h in
+        let g = size-first f m n o h in
         let d : 2 * magnitude f n ≤ middle f m = omega (arith, magnitude-le f n m h, magnitude-le f m (suc m) (omega arith)) in
-        subst (Crosses F a b) (sym E) (record {
+        rw E (record {
           up = ap (cond (leb b z) 0) g ∙ signed-up (leb b z) (ltb z a) (middle f m) (2 * magnitude f n) d ∙ sym (ap₂ _-_ (ap₂ _+_ (middle-signs .0) (operand-signs .0)) (ap₂ _+_ (middle-signs .1) (operand-signs .1)));
           down = ap (λ (x : ℕ). cond (leb b z) x 0) g ∙ signed-down (leb b z) (ltb z a) (middle f m) (2 * magnitude f n) d ∙ sym (ap₂ _-_ (ap₂ _+_ (middle-signs .1) (operand-signs .1)) (ap₂ _+_ (middle-signs .0) (operand-signs .0)));
-          shaped = shaped-first f m n (leb b z) o h (high .0);
-          low = low f m n (leb b z) o h (high .0);
+          shaped = shaped-first f m n o h (high .0);
+          low = low f m n o h (high .0);
         })
 
-    pub crosses-second : m < n → (t : Exact) → t ≡ doubledOf 0 1 (exactOf f (ltb z a) o n m) → Crosses F a b t
+    pub crosses-second : m < n → (t : Exact) → t ≡ doubledOf 0 1 (exactOf f o n m) → Crosses F a b (record { negative = ltb z a; size = t })
     crosses-second h t E =
         let l : m ≤ n = omega arith in
-        let g = size-second f n m (ltb z a) o l ∙ ap (λ (b : Bool). cond b (2 * magnitude f n - middle f m) (2 * magnitude f n + middle f m)) (apart-comm (leb b z) (ltb z a)) in
+        let g = size-second f n m o l ∙ ap (λ (b : Bool). cond b (2 * magnitude f n - middle f m) (2 * magnitude f n + middle f m)) (apart-comm (leb b z) (ltb z a)) in
         let d : middle f m ≤ 2 * magnitude f n = omega (arith, magnitude-le f (suc m) n h, magnitude-le f m n l) in
-        subst (Crosses F a b) (sym E) (record {
+        rw E (record {
           up = ap (cond (ltb z a) 0) g ∙ signed-up (ltb z a) (leb b z) (2 * magnitude f n) (middle f m) d ∙ sym (ap₂ _-_ (ap₂ _+_ (middle-signs .0) (operand-signs .0) ∙ omega arith) (ap₂ _+_ (middle-signs .1) (operand-signs .1) ∙ omega arith));
           down = ap (λ (x : ℕ). cond (ltb z a) x 0) g ∙ signed-down (ltb z a) (leb b z) (2 * magnitude f n) (middle f m) d ∙ sym (ap₂ _-_ (ap₂ _+_ (middle-signs .1) (operand-signs .1) ∙ omega arith) (ap₂ _+_ (middle-signs .0) (operand-signs .0) ∙ omega arith));
-          shaped = shaped-second f n m (ltb z a) o l (high .1) h;
-          low = low f n m (ltb z a) o l (high .1);
+          shaped = shaped-second f n m o l (high .1) h;
+          low = low f n m o l (high .1);
         })

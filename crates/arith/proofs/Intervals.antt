@@ -12,8 +12,8 @@ use Rattle.arith.specs.declared.interval.Image.{Image}
 use Rattle.arith.specs.declared.interval.Image.the-variants as Image
 use Rattle.arith.specs.declared.sum.Sum.the-variants as Sum
 use Rattle.arith.specs.Refusals.{refusal, orRefuse}
-use Rattle.arith.specs.Formats.{isFinite, pattern, sum}
-use Rattle.arith.specs.Sums.{isFiniteOrdinal, markOf, inRange, sumAnswer}
+use Rattle.arith.specs.Formats.{isFinite, sum}
+use Rattle.arith.specs.Sums.{isFiniteOrdinal, sumIs, inRange, sumAnswer}
 use Rattle.arith.specs.Intervals.{Bounded, endsFinite, rangeOf, intervalOf, span, common, movedIn, reflected, mirroredEnds}
 use Rattle.arith.specs.Steps.{betweenSums}
 use Rattle.arith.proofs.Formats.{both}
@@ -48,7 +48,7 @@ sums-moved F x y c = go (isFiniteOrdinal F (sum F x c)) (isFiniteOrdinal F (sum 
     moved = Image.Is (intervalOf F (record { low = sum F x c; high = sum F y c }))
 
     go : (p q : Bool)
-        → betweenSums (cond p (Sum.Is (pattern F (sum F x c)) (markOf F x c (sum F x c))) (Sum.Refused (refusal 9))) (cond q (Sum.Is (pattern F (sum F y c)) (markOf F y c (sum F y c))) (Sum.Refused (refusal 9)))
+        → betweenSums (cond p (sumIs F x c (sum F x c)) (Sum.Refused (refusal 9))) (cond q (sumIs F y c (sum F y c)) (Sum.Refused (refusal 9)))
         ≡ orRefuse Image.Refused p 9 (orRefuse Image.Refused q 9 moved)
     go true true = refl
     go true false = refl

@@ -10,7 +10,7 @@ use Rattle.ladder.proofs.Cases.{le-or-lt}
 use Rattle.ladder.proofs.Multiples.{sub-mul}
 use Rattle.arith.specs.declared.sum.Exact.{Exact}
 use Rattle.arith.specs.declared.sum.Scaled.{Scaled}
-use Rattle.arith.specs.Exacts.{joinedOf, sizeOf, Shaped, Alike, same, sticky, Scales, Digits}
+use Rattle.arith.specs.Exacts.{joinedOf, stepsOf, sizeOf, Shaped, Alike, same, sticky, Scales, Digits}
 
 -- ---- the numbers: u and v are powers of two, Q is K * 2u and the rest L
 module _ (P K L Q u v : ℕ) (q : Q ≡ K * (2 * u) + L) where
@@ -98,10 +98,10 @@ module _ (f : ℕ) (e : Exact) (ok : Digits f) (h : Shaped f e) where
   near-fits l = omega (arith, few, h .larger, h .smaller, mul-le-mul-left (e .larger) (pow-mono {j = 3} l))
 
   pub scale-near : (u : ℕ) (r : Scaled) → u ≡ e .larger * 2 ^ e .gap → r ≡ joinedOf (e .opposite) u (e .smaller) (e .shift) → Scales f e r
-  unfolding sizeOf
+  unfolding sizeOf stepsOf
   scale-near u r U R =
       subst (Scales f e) (sym (R ∙ ap (λ (x : ℕ). joinedOf (e .opposite) x (e .smaller) (e .shift)) U))
-      (record { alike = same refl; low = omega arith })
+      (record { alike = same refl; fine = omega arith; low = omega arith })
 
   pub far-fits : (k s : ℕ) → k ≤ e .smaller → s ≤ 1 → 16 * e .larger + (2 * k + s) < 2 ^ 64
   far-fits k s l m = omega (arith, few, h .larger, h .smaller)
@@ -114,7 +114,7 @@ module _ (f : ℕ) (e : Exact) (ok : Digits f) (h : Shaped f e) where
 
   pub scale-far : (k s : ℕ) (r : Scaled) → 3 < e .gap → k ≡ e .smaller / 2 ^ (e .gap - 3) → s ≡ min (e .smaller % 2 ^ (e .gap - 3)) 1
       → r ≡ joinedOf (e .opposite) (16 * e .larger) (2 * k + s) (e .shift + (e .gap - 3 - 1)) → Scales f e r
-  unfolding sizeOf
+  unfolding sizeOf stepsOf
   scale-far k s r l K S R =
       let g = e .gap - 4 in
       let P = e .larger in
@@ -133,5 +133,6 @@ module _ (f : ℕ) (e : Exact) (ok : Digits f) (h : Shaped f e) where
       subst (Scales f e) (sym E)
       (record {
         alike = subst (λ (x : ℕ). Alike f (cond o (16 * P - (2 * (Q / 2 ^ suc g) + min (Q % 2 ^ suc g) 1)) (16 * P + (2 * (Q / 2 ^ suc g) + min (Q % 2 ^ suc g) 1)) * 2 ^ (i + g)) (cond o (P * 2 ^ x - Q) (P * 2 ^ x + Q) * 2 ^ i)) z3 (jam f g i P Q (ok .0) big (h .smaller) o);
+        fine = omega arith;
         low = low;
       })

@@ -10,6 +10,7 @@ pub mod Jamming
 pub mod Halving
 pub mod Crossing
 pub mod Thresholds
+pub mod Remainders
 pub mod Sums
 pub mod Clamping
 pub mod Bounds
@@ -17,4 +18,5 @@ pub mod Narrowings
 pub mod Callers
 pub mod Valid
 pub mod Replies
+pub mod Additions
 pub mod Widths

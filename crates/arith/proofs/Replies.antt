@@ -11,8 +11,8 @@ use Rattle.arith.specs.declared.sum.Sum.the-variants as Sum
 use Rattle.arith.specs.declared.interval.Cut.the-variants as Cut
 use Rattle.arith.specs.declared.interval.Image.the-variants as Image
 use Rattle.arith.specs.declared.narrow.Narrowed.the-variants as Narrowed
-use Rattle.arith.specs.Formats.{formatOf, ordinal, pattern}
-use Rattle.arith.specs.Sums.{markOf, inRange, addIn, addOf}
+use Rattle.arith.specs.Formats.{formatOf, ordinal}
+use Rattle.arith.specs.Sums.{sumIs, inRange, addIn, addOf}
 use Rattle.arith.specs.Intervals.{isOrdered, common, reflected, intervalOf, sharedIn, movedIn, canonicalIn, cutIn, shiftIn, mirrorIn, canonicalOf, cutOf, shiftOf, mirrorOf}
 use Rattle.arith.specs.Narrows.{narrowAnswer, narrowFinite, narrowIn, narrowOf}
 use Rattle.arith.specs.Answers.{Reply, gives, refuses, sumTold, cutTold, imageTold, narrowedTold}
@@ -68,7 +68,7 @@ unfolding addOf addIn inRange
 add-told width x a =
     let F = formatOf width in
     let s = R.sumOf width x a in
-    told-chain Sum.Refused sumTold (λ _. refl) (R.addTests width x a) [] (Sum.Is (pattern F s) (markOf F (ordinal F x) (ordinal F a) s)) (R.addValues width x a) refl
+    told-chain Sum.Refused sumTold (λ _. refl) (R.addTests width x a) [] (sumIs F (ordinal F x) (ordinal F a) s) (R.addValues width x a) refl
 
 -- ---- intervals
 module _ (width : ℕ) (I : Interval) where

@@ -1,7 +1,7 @@
 -- The rounding of a number of units: an exact one, one by its kept digits and the rest, and one of whose low digits only a sticky bit is kept. Rests on `ladder`'s Digits, Magnitude, Rounding, Nearest, Multiples and Sticky.
-use mathlib.Core.Path.{_≡_, refl, sym, ap, ap₂, _∙_}
+use mathlib.Core.Path.{_≡_, refl, sym, ap, ap₂, _∙_, subst}
 use mathlib.Core.Logic.{_⊎_, inl, inr}
-use mathlib.Core.Bool.{Bool, true, false}
+use mathlib.Core.Bool.{Bool, true, false, true≢false}
 use Prim.Native.Nat.{ℕ, suc, _+_, _-_, _*_, _/_, _%_, _^_, _≤_, _<_, Ordering, Ordering·lt, Ordering·eq, Ordering·gt}
 use native.Mathlib.Nat.{div-lt-iff-lt-mul, le-trans, le-of-eq, eq-of-mul-eq-mul-right, mod-lt, div-add-mod'}
 use native.Mathlib.Nat.{mul-le-mul-left, mul-le-mul-right, mul-lt-mul-of-pos-right, mod-eq-zero-of-dvd, pow-succ', mul-pos}
@@ -12,19 +12,23 @@ use lib.Pow.{pow-pos, pow-add, pow-mono}
 use lib.Ieee.{size, nearest}
 use lib.Ieee.Digits.{size-lt, size-le, size-reaches}
 use lib.Ieee.Nearest.{closest}
-use borrow.Author.Tests.{eq-eqb, ne-eqb}
+use borrow.Author.Tests.{eq-eqb, ne-eqb, eqb-true, eqb-false}
 use Rattle.ladder.specs.Magnitude.{magnitude}
 use Rattle.ladder.specs.Rounding.{excess, round}
+use Rattle.ladder.specs.Nearest.{NearestSize}
 use Rattle.ladder.proofs.Cases.{le-or-lt, trichotomy, equal-or-not, Compares, compare-is}
 use Rattle.ladder.proofs.Digits.{shifted-lt, shifted-ge, size-scale}
 use Rattle.ladder.proofs.Magnitude.{magnitude-is, magnitude-small, magnitude-shift}
 use Rattle.ladder.proofs.Rounding.{round-mono, round-magnitude, even-pow}
-use Rattle.ladder.proofs.Multiples.{magnitude-dvd}
+use Rattle.ladder.proofs.Multiples.{magnitude-dvd, times-dvd}
 use Rattle.ladder.proofs.Sticky.{round-sticky, round-scale}
 use Rattle.ladder.proofs.Nearest.{round-nearest-size}
+use Rattle.arith.specs.declared.sum.Exact.{Exact}
+use Rattle.arith.specs.declared.sum.Scaled.{Scaled}
 use Rattle.arith.specs.declared.sum.Rounded.{Rounded}
-use Rattle.arith.specs.Exacts.{leadingOf, roundingOf, Alike, same, sticky, Fraction}
-use Rattle.arith.specs.Steps.{Rounds}
+use Rattle.arith.specs.declared.sum.Rounding.{Rounding}
+use Rattle.arith.specs.Exacts.{sizeOf, leadingOf, keptOf, roundingOf, Alike, same, sticky, Scales, Fraction}
+use Rattle.arith.specs.Steps.{RoundsUnits, Rounds}
 
 pub same-eqb : (a b c d : ℕ) → (a ≡ b → c ≡ d) → (c ≡ d → a ≡ b) → eqb a b ≡ eqb c d
 same-eqb a b c d p q = elim (equal-or-not a b) [
@@ -35,6 +39,22 @@ same-eqb a b c d p q = elim (equal-or-not a b) [
 rounding-is : (f n p : ℕ) (b : Bool) → round f n ≡ p → eqb (magnitude f (round f n)) n ≡ b → record { m = p; exact = b } ≡ roundingOf f n
 unfolding roundingOf
 rounding-is f n p b h g = sym (ap₂ (λ (x : ℕ) (y : Bool). record { m = x; exact = y }) h g)
+
+-- ---- what a rounded number tells
+module _ (f n : ℕ) (r : Rounded) (R : r ≡ roundingOf f n) where
+  pub rounded-m : r .m ≡ round f n
+  unfolding roundingOf
+  rounded-m = ap (λ (z : Rounded). z .m) R
+
+  pub rounded-exact : r .exact ≡ eqb (magnitude f (r .m)) n
+  unfolding roundingOf
+  rounded-exact = ap (λ (z : Rounded). z .exact) R ∙ ap (λ (z : ℕ). eqb (magnitude f z) n) (sym rounded-m)
+
+  pub lossless : r .exact ≡ true → magnitude f (r .m) ≡ n
+  lossless e = eqb-true _ _ (sym rounded-exact ∙ e)
+
+  pub lossy : r .exact ≡ false → magnitude f (r .m) ≡ n → ⊥
+  lossy e = eqb-false _ _ (sym rounded-exact ∙ e)
 
 -- ---- nothing is lost
 rounding-exact : (f m n : ℕ) → 1 ≤ f → magnitude f m ≡ n → record { m = m; exact = true } ≡ roundingOf f n
@@ -59,10 +79,17 @@ pub rounding-alike : (f n m : ℕ) → 1 ≤ f → Alike f n m → roundingOf f 
 rounding-alike f n m some (same e) = ap (roundingOf f) e
 rounding-alike f n m some (sticky j a b c big B B' C C' N M) = ap (roundingOf f) N ∙ rounding-sticky f j a b c some big B B' C C' ∙ sym (ap (roundingOf f) M)
 
--- the formula, and that none is nearer
-pub rounds : (f n : ℕ) (r : Rounded) → 1 ≤ f → r ≡ roundingOf f n → Rounds f n r
+-- by a scaled number that rounds as t does: the formula, and that none is nearer
+pub rounds : (f : ℕ) (t : Exact) (s : Scaled) (r : Rounding) → 1 ≤ f → Scales f t s → RoundsUnits f (s .significand) (s .shift) r → Rounds f t r
 unfolding roundingOf
-rounds f n r some e = record { is = e; nearest = rw e (round-nearest-size f n some) }
+rounds f t s r some S R =
+    let e = R .is ∙ rounding-alike f _ _ some (S .alike) in
+    record {
+      is = e;
+      nearest = subst (NearestSize f (sizeOf t)) (sym (rounded-m f (sizeOf t) (r .result) e)) (round-nearest-size f (sizeOf t) some);
+      kept = R .kept;
+      coarser = λ x. le-trans (S .fine) (R .coarser x);
+    }
 
 -- ---- the quotient
 quotient-few : (j k n : ℕ) → n < 2 ^ (j + k) → n / 2 ^ k < 2 ^ j
@@ -85,6 +112,16 @@ closest-up n d half up D u = elim (trichotomy (n % d) half) [
   ]
 ]
 
+-- at most one up
+closest-near : (n d : ℕ) → (n / d ≤ closest n d) × (closest n d ≤ n / d + 1)
+closest-near n d = elim (trichotomy (n % d * 2) d) [
+  | inl l ↦ let e = closest-at n d Ordering·lt l in (omega arith, omega arith)
+  | inr o ↦ elim o [
+    | inl z ↦ let e = closest-at n d Ordering·eq z in (omega arith, omega arith)
+    | inr g ↦ let e = closest-at n d Ordering·gt g in (omega arith, omega arith)
+  ]
+]
+
 -- ---- what `round_leading` makes of n: q is kept, and rest goes
 pub rest-fits : (f n rest : ℕ) → rest ≡ n % 2 ^ (63 - f) → rest < 2 ^ 63
 rest-fits f n rest R = omega (arith, mod-lt n (pow-pos (63 - f)), pow-mono {i = 63 - f} {j = 63} (omega arith))
@@ -95,12 +132,13 @@ significand-fits f n q ok word Q =
     omega (arith, quotient-few (f + 1) (63 - f) n (omega (arith, ap (λ (x : ℕ). 2 ^ x) w)), pow-mono {i = f + 1} {j = 53} (omega (arith, ok .1)))
 
 pub leading-is : (f n e q rest half u up : ℕ) → Fraction f → q ≡ n / 2 ^ (63 - f) → rest ≡ n % 2 ^ (63 - f) → half ≡ 1 * 2 ^ (63 - f - 1) → u ≡ e * 2 ^ f → Up q rest half up
-    → record { m = u + q + up; exact = eqb rest 0 } ≡ leadingOf f n e
+    → record { result = record { m = u + (q + up); exact = eqb rest 0 }; kept = record { significand = q + up; shift = e } } ≡ leadingOf f n e
 leading-is f n e q rest half u up ok Q R H U p =
     let k : ℕ = 63 - f in
     let D : 2 ^ k ≡ 2 * half = even-pow k (omega (arith, ok .1)) ∙ omega arith in
-    let c = closest-up n (2 ^ k) half up D (rw (Q, R) at p) in
-    ap₂ (λ (x y : ℕ). record { m = x; exact = eqb y 0 }) (omega (arith, c)) R
+    let c : q + up ≡ closest n (2 ^ k) = sym (closest-up n (2 ^ k) half up D (rw (Q, R) at p) ∙ omega arith) in
+    ap (λ (x : ℕ). record { result = record { m = u + x; exact = eqb rest 0 }; kept = record { significand = x; shift = e } }) c
+    ∙ ap₂ (λ (x y : ℕ). record { result = record { m = x + closest n (2 ^ k); exact = eqb y 0 }; kept = record { significand = closest n (2 ^ k); shift = e } }) U R
 
 -- ---- n has f + 1 + k digits, and stands for n * 2 ^ s
 module _ (f n s k : ℕ) (long : size n ≡ f + 1 + k) where
@@ -146,6 +184,10 @@ module _ (f n s k : ℕ) (long : size n ≡ f + 1 + k) where
   long-is : 1 ≤ f → record { m = (s + k) * 2 ^ f + closest n (2 ^ k); exact = eqb (n % 2 ^ k) 0 } ≡ roundingOf f (n * 2 ^ s)
   long-is some = rounding-is f (n * 2 ^ s) ((s + k) * 2 ^ f + closest n (2 ^ k)) (eqb (n % 2 ^ k) 0) round-long (rest-tells some)
 
+  -- what is kept is a significand, or one past it
+  closest-value : (e : ℕ) → closest n (2 ^ k) * 2 ^ e ≡ magnitude f (e * 2 ^ f + closest n (2 ^ k))
+  closest-value e = let c = closest-near n (2 ^ k) in sym (magnitude-is f e (closest n (2 ^ k)) (inr (omega (arith, kept-big))) (omega (arith, kept-few)))
+
 -- ---- a shift of a number that has all its digits
 -- N is n * 2 ^ z, and rounds to z binades more
 shifted-back : (f n z N p q : ℕ) (b : Bool) → 1 ≤ f → 2 ^ f ≤ n → N ≡ n * 2 ^ z → q ≡ z * 2 ^ f + p → record { m = q; exact = b } ≡ roundingOf f N → record { m = p; exact = b } ≡ roundingOf f n
@@ -177,24 +219,51 @@ module _ (f n s : ℕ) (ok : Fraction f) (word : n < 2 ^ 64) (h : s * 2 ^ f ≤ 
 
 -- ---- what `round_units` makes of n, which stands for n * 2 ^ s
 module _ (f n s : ℕ) (ok : Fraction f) where
-  pub units-zero : n ≡ 0 → record { m = 0; exact = true } ≡ roundingOf f (n * 2 ^ s)
-  units-zero z = rounding-exact f 0 (n * 2 ^ s) (ok .0) (magnitude-small f 0 (omega arith) ∙ omega (arith, ap (λ (x : ℕ). x * 2 ^ s) z))
+  -- every digit is kept
+  all-kept : (p : ℕ) → p ≡ n * 2 ^ s → p < 2 * 2 ^ f → RoundsUnits f n s (keptOf p)
+  all-kept p e l =
+      let v = magnitude-small f p (omega arith) in
+      record { is = rounding-exact f p (n * 2 ^ s) (ok .0) (v ∙ e); kept = omega arith; coarser = λ x. absurd (true≢false x) }
+
+  pub units-zero : n ≡ 0 → (r : Rounding) → r ≡ keptOf 0 → RoundsUnits f n s r
+  units-zero z r R = rw R (all-kept 0 (omega (arith, ap (λ (x : ℕ). x * 2 ^ s) z)) (omega (arith, pow-pos f)))
 
   -- at most f + 1 digits
-  pub units-few : (p : ℕ) → p ≡ n * 2 ^ s → size n + s ≤ f + 1 → record { m = p; exact = true } ≡ roundingOf f (n * 2 ^ s)
-  units-few p e h =
+  pub units-few : (p : ℕ) → p ≡ n * 2 ^ s → size n + s ≤ f + 1 → (r : Rounding) → r ≡ keptOf p → RoundsUnits f n s r
+  units-few p e h r R =
       let g : size n + s ≤ suc f = omega arith in
-      rounding-exact f p (n * 2 ^ s) (ok .0) (magnitude-small f p (omega (arith, shifted-lt n s (suc f) g, pow-succ' 2 f)) ∙ e)
+      rw R (all-kept p e (omega (arith, shifted-lt n s (suc f) g, pow-succ' 2 f)))
 
   -- more, with the first digit on top of a word
-  pub units-many : 0 < n → n < 2 ^ 64 → f + 1 < size n + s → leadingOf f (n * 2 ^ (64 - size n)) (size n + s - (f + 1)) ≡ roundingOf f (n * 2 ^ s)
-  units-many pos word more =
-      let z : ℕ = 64 - size n in
-      let k : ℕ = 63 - f in
-      let e : ℕ = size n + s - (f + 1) in
-      let N : ℕ = n * 2 ^ z in
-      let few = size-le n 64 word in
-      let top : size N ≡ f + 1 + k = size-scale n z pos ∙ omega (arith, ok .1) in
-      let E : s + k ≡ z + e = omega (arith, ok .1) in
-      shifted-back f (n * 2 ^ s) z (N * 2 ^ s) (e * 2 ^ f + closest N (2 ^ k)) ((s + k) * 2 ^ f + closest N (2 ^ k)) (eqb (N % 2 ^ k) 0) (ok .0) (shifted-ge n s f pos (omega arith))
-      (omega arith) (omega (arith, ap (λ (x : ℕ). x * 2 ^ f) E)) (long-is f N s k top (ok .0))
+  module _ (pos : 0 < n) (word : n < 2 ^ 64) (more : f + 1 < size n + s) where
+    abbrev z : ℕ
+    z = 64 - size n
+
+    abbrev k : ℕ
+    k = 63 - f
+
+    abbrev e : ℕ
+    e = size n + s - (f + 1)
+
+    abbrev N : ℕ
+    N = n * 2 ^ z
+
+    top : size N ≡ f + 1 + k
+    top = size-scale n z pos ∙ omega (arith, ok .1, size-le n 64 word)
+
+    many-is : leadingOf f N e .result ≡ roundingOf f (n * 2 ^ s)
+    many-is =
+        let few = size-le n 64 word in
+        let E : s + k ≡ z + e = omega (arith, ok .1) in
+        shifted-back f (n * 2 ^ s) z (N * 2 ^ s) (e * 2 ^ f + closest N (2 ^ k)) ((s + k) * 2 ^ f + closest N (2 ^ k)) (eqb (N % 2 ^ k) 0) (ok .0) (shifted-ge n s f pos (omega arith))
+        (omega arith) (omega (arith, ap (λ (x : ℕ). x * 2 ^ f) E)) (long-is f N s k top (ok .0))
+
+    -- a rest is left only where n has more digits than are kept
+    many-coarser : eqb (N % 2 ^ k) 0 ≡ false → s ≤ e
+    many-coarser x = elim (le-or-lt (f + 1) (size n)) [
+      | inl l ↦ omega arith
+      | inr l ↦ absurd (eqb-false _ _ x (mod-eq-zero-of-dvd (2 ^ k) (times-dvd k z n (omega (arith, ok .1)))))
+    ]
+
+    pub units-many : (r : Rounding) → r ≡ leadingOf f N e → RoundsUnits f n s r
+    units-many r R = rw R (record { is = many-is; kept = closest-value f N s k top e; coarser = many-coarser })

@@ -2,13 +2,14 @@
 use mathlib.Core.Path.{_≡_, sym}
 use mathlib.Core.Logic.{inl, inr}
 use Prim.Native.Nat.{ℕ, suc, _+_, _*_, _/_, _%_, _^_, _≤_, _<_}
-use native.Mathlib.Nat.{le-antisymm, lt-of-lt-of-le, div-eq-of-lt, mod-eq-of-lt, div-add-mod', pow-succ'}
+use native.Mathlib.Nat.{le-antisymm, lt-of-lt-of-le, div-eq-of-lt, mod-eq-of-lt, mod-eq-zero-of-dvd, div-add-mod', pow-succ'}
 use native.Mathlib.Omega.{arith}
 use lib.Pow.{pow-mono, pow-lt}
 use lib.Count.{leadingZeros, leading-length}
 use lib.Ieee.{size}
 use lib.Ieee.Digits.{size-lt, size-le}
 use Rattle.ladder.proofs.Cases.{le-or-lt}
+use Rattle.ladder.proofs.Multiples.{times-dvd}
 
 pub pow-word : (k : ℕ) → k < 64 → 1 * 2 ^ k < 2 ^ 64
 pow-word k h = omega (arith, pow-lt h)
@@ -21,6 +22,10 @@ past-div n k h l = sym (div-eq-of-lt (past n k h l))
 
 pub past-mod : (n k : ℕ) → n < 2 ^ 64 → 64 ≤ k → n ≡ n % 2 ^ k
 past-mod n k h l = sym (mod-eq-of-lt (past n k h l))
+
+-- the low word of a shift left by a whole word or more
+pub past-low : (n k : ℕ) → 64 ≤ k → 0 ≡ (n * 2 ^ k) % 2 ^ 64
+past-low n k l = sym (mod-eq-zero-of-dvd (2 ^ 64) (times-dvd 64 k n l))
 
 -- down and up again
 pub again : (n k : ℕ) → n < 2 ^ 64 → (n / 2 ^ k * 2 ^ k) % 2 ^ 64 ≡ n / 2 ^ k * 2 ^ k

@@ -1,5 +1,6 @@
--- Step 3 of the forward sum: the rounded exact sum, tested for its range, is 01's sum, as an ordinal and as an answer. Rests on `ladder`'s laws of rounding.
-use mathlib.Core.Path.{_≡_, refl, sym, ap, ap₂, _∙_}
+-- Step 3 of the forward sum: the rounded exact sum, tested for its range, is 01's sum, as an ordinal and as an answer, and what rounding left over is 02's remainder.
+-- Rests on `ladder`'s laws of rounding and of the remainder.
+use mathlib.Core.Path.{_≡_, refl, sym, ap, ap₂, _∙_, subst}
 use mathlib.Core.Logic.{inl, inr}
 use mathlib.Core.Bool.{Bool, true, false, cond, _&&_}
 use Prim.Native.Nat.{ℕ, _+_, _-_, min, _≤_, _<_}
@@ -8,26 +9,32 @@ use lib.Dec.{ltb, eqb}
 use borrow.Author.Tests.{lt-ltb, le-ltb, le-leb, lt-leb}
 use Rattle.ladder.specs.Magnitude.{magnitude}
 use Rattle.ladder.specs.Rounding.{round}
+use Rattle.ladder.specs.Ordinal.{above, below}
+use Rattle.ladder.specs.Ordinal as L
 use Rattle.ladder.specs.Sum.{gains, losses, rounded}
 use Rattle.ladder.specs.Sum as S
 use Rattle.ladder.proofs.Cases.{le-or-lt}
 use Rattle.ladder.proofs.Magnitude.{magnitude-lt}
 use Rattle.ladder.proofs.Sum.{rounded-up, rounded-down}
+use Rattle.ladder.proofs.Remainder.{sum-remainder}
 use Rattle.arith.specs.declared.format.Format.{Format}
 use Rattle.arith.specs.declared.sum.Signed.{Signed}
-use Rattle.arith.specs.declared.sum.Exact.{Exact}
+use Rattle.arith.specs.declared.sum.ExactSum.{ExactSum}
 use Rattle.arith.specs.declared.sum.Rounded.{Rounded}
+use Rattle.arith.specs.declared.sum.Rounding.{Rounding}
+use Rattle.arith.specs.declared.sum.Addition.{Addition}
 use Rattle.arith.specs.declared.sum.Tested.{Tested}
 use Rattle.arith.specs.declared.sum.Tested.the-variants.{Finite, Overflow}
 use Rattle.arith.specs.declared.sum.Sum.the-variants.{Is, Refused}
 use Rattle.arith.specs.Refusals.{refusal}
-use Rattle.arith.specs.Formats.{Sound, pattern, sum}
-use Rattle.arith.specs.Exacts.{sizeOf, roundingOf}
-use Rattle.arith.specs.Sums.{isFiniteOrdinal, markFor, isExact, markOf, inRange, sumAnswer}
-use Rattle.arith.specs.Steps.{ordinalAt, Represents, Exactly, testedOf, RangeTested, IsSum}
+use Rattle.arith.specs.Formats.{Sound, pattern, sum, remainder}
+use Rattle.arith.specs.Exacts.{sizeOf}
+use Rattle.arith.specs.Sums.{isFiniteOrdinal, markFor, isExact, markOf, sumIs, inRange, sumAnswer}
+use Rattle.arith.specs.Steps.{isSet, FiniteSigned, ordinalAt, Represents, Exactly, Rounds, testedOf, answerOf, RangeTested, RoundedSum, LeftOver, short, past, IsSum}
 use Rattle.arith.proofs.Formats.{infinity-lt}
-use Rattle.arith.proofs.Roundings.{same-eqb}
+use Rattle.arith.proofs.Roundings.{same-eqb, rounded-m, rounded-exact}
 use Rattle.arith.proofs.Decoding.{signed-units}
+use Rattle.arith.proofs.Remainders.{left-short, left-past, other-sign, other-set, value-represents}
 
 and-no : (p q : Bool) → q ≡ false → (p && q) ≡ false
 and-no true q e = e
@@ -76,79 +83,144 @@ module _ (F : Format) (ok : Sound F) where
   finite-no true = let l : s - F .infinity + F .infinity ≤ s = omega (arith, infinity-lt F ok) in ap (λ (z : Bool). z && ltb (s - F .infinity) (s + F .infinity)) (le-ltb _ _ l)
   finite-no false = let l : s + F .infinity ≤ s + F .infinity = omega arith in and-no (ltb s (s + F .infinity + F .infinity)) (ltb (s + F .infinity) (s + F .infinity)) (le-ltb _ _ l)
 
--- ---- the range test
-module _ (F : Format) (negative : Bool) (r : Rounded) where
-  abbrev sized : ℕ → Signed
-  sized m = record { negative = negative; m = m }
-
-  pub test-over : F .infinity ≤ r .m → RangeTested F negative r (Overflow (sized (F .infinity)))
-  test-over h = record {
-    is = simp (le-leb (F .infinity) (r .m) h);
-    refused = (λ e y l. magnitude-lt (F .fraction) y (r .m) (omega arith), λ p. refl);
+  pub finite-ordinal : (z : Signed) → FiniteSigned F z → L.Finite f e (ordinalAt F z)
+  finite-ordinal z h = record {
+    low = omega (arith, ok .sign, ok .infinity, signed-low (isSet (z .sign)) (z .m) s (F .infinity) (h .m) (infinity-lt F ok));
+    high = omega (arith, ok .sign, ok .infinity, signed-high (isSet (z .sign)) (z .m) s (F .infinity) (h .m));
   }
 
-  pub test-in : (k : ℕ) → k ≡ markFor (F .fraction) (r .m) (r .exact) → r .m < F .infinity → RangeTested F negative r (Finite (sized (r .m)) k)
+-- ---- the range test
+module _ (F : Format) (sign : ℕ) (r : Rounded) where
+  abbrev sized : ℕ → Signed
+  sized m = record { sign = sign; m = m }
+
+  pub test-over : F .infinity ≤ r .m → RangeTested F sign r (Overflow (sized (F .infinity)))
+  test-over h = record {
+    is = simp (le-leb (F .infinity) (r .m) h);
+    refused = λ z. (λ e y l. magnitude-lt (F .fraction) y (r .m) (omega arith), λ p. refl);
+  }
+
+  pub test-in : (k : ℕ) → k ≡ markFor (F .fraction) (r .m) (r .exact) → r .m < F .infinity → RangeTested F sign r (Finite (sized (r .m)) k)
   test-in k K h = record {
     is = ap (Finite (sized (r .m))) K ∙ simp (lt-leb (F .infinity) (r .m) h);
-    refused = (λ e. let z : _≡_ {A = ℕ} 0 1 = cc in absurd (omega arith), λ p. absurd (omega (arith, p (r .m) h)));
+    refused = λ z. (λ e. let z : _≡_ {A = ℕ} 0 1 = cc in absurd (omega arith), λ p. absurd (omega (arith, p (r .m) h)));
   }
 
 -- ---- the three steps: t is the exact sum of x and a, and r that sum rounded
-module _ (F : Format) (x a : ℕ) (t : Exact) (r : Rounded) (ok : Sound F) (T : Exactly F x a t) (R : r ≡ roundingOf (F .fraction) (sizeOf t)) where
+module _ (F : Format) (x a : ℕ) (t : ExactSum) (g : Rounding) (ok : Sound F) (T : Exactly F x a t) (R : Rounds (F .fraction) (t .size) g) where
+  abbrev r : Rounded
+  r = g .result
+
+  abbrev fraction : ℕ
+  fraction = F .fraction
+
+  abbrev exponent : ℕ
+  exponent = F .exponent
+
   abbrev i : ℕ
   i = F .infinity
 
   abbrev y : ℕ
   y = sum F x a
 
+  abbrev n : ℕ
+  n = sizeOf (t .size)
+
+  abbrev b : Bool
+  b = isSet (t .sign)
+
   -- the sum's sign with another m
   abbrev at : ℕ → Signed
-  at m = record { negative = t .negative; m = m }
-
-  m-is : r .m ≡ round (F .fraction) (sizeOf t)
-  unfolding roundingOf
-  m-is = ap (λ (z : Rounded). z .m) R
-
-  exact-is : r .exact ≡ eqb (magnitude (F .fraction) (r .m)) (sizeOf t)
-  unfolding roundingOf
-  exact-is = ap (λ (z : Rounded). z .exact) R ∙ ap (λ (z : ℕ). eqb (magnitude (F .fraction) z) (sizeOf t)) (sym m-is)
+  at m = record { sign = t .sign; m = m }
 
   sum-is : (m : ℕ) → m ≡ min (r .m) i → ordinalAt F (at m) ≡ y
   unfolding S.sum
   sum-is m h =
-      ap (λ (z : ℕ). ordinalAt F (at z)) (h ∙ ap (λ (z : ℕ). min z i) m-is)
-      ∙ sym (rounded-signed F ok (t .negative) (sizeOf t) (gains (F .fraction) (F .exponent) x a) (losses (F .fraction) (F .exponent) x a) (T .up) (T .down))
+      ap (λ (z : ℕ). ordinalAt F (at z)) (h ∙ ap (λ (z : ℕ). min z i) (rounded-m fraction n r (R .is)))
+      ∙ sym (rounded-signed F ok b n (gains fraction exponent x a) (losses fraction exponent x a) (T .amounts .up) (T .amounts .down))
 
-  -- the answer, by the range test of the sum's ordinal
-  answer-by : (o : ℕ) (b : Bool) → o ≡ y → isFiniteOrdinal F o ≡ b → cond b (Is (pattern F o) (markOf F x a o)) (Refused (refusal 9)) ≡ sumAnswer F x a
-  unfolding inRange
-  answer-by o b O B = sym (ap (λ (z : Bool). cond z (Is (pattern F o) (markOf F x a o)) (Refused (refusal 9))) B) ∙ ap (inRange F x a) O
-
-  mark-is : r .m < i → markFor (F .fraction) (r .m) (r .exact) ≡ markOf F x a (ordinalAt F (at (r .m)))
+  mark-is : r .m < i → markFor fraction (r .m) (r .exact) ≡ markOf F x a (ordinalAt F (at (r .m)))
   unfolding markOf isExact
   mark-is h =
       let l : r .m ≤ F .sign = omega (arith, infinity-lt F ok) in
       let u = signed-units F ok (at (r .m)) (omega arith) in
       let X : r .exact ≡ isExact F x a (ordinalAt F (at (r .m))) =
-      exact-is
-      ∙ sym (ap₂ (λ (p q : ℕ). eqb (p + losses (F .fraction) (F .exponent) x a) (gains (F .fraction) (F .exponent) x a + q)) (u .0) (u .1)
-      ∙ same-size (t .negative) (magnitude (F .fraction) (r .m)) (sizeOf t) (gains (F .fraction) (F .exponent) x a) (losses (F .fraction) (F .exponent) x a) (T .up) (T .down))
+      rounded-exact fraction n r (R .is)
+      ∙ sym (ap₂ (λ (p q : ℕ). eqb (p + losses fraction exponent x a) (gains fraction exponent x a + q)) (u .0) (u .1)
+      ∙ same-size b (magnitude fraction (r .m)) n (gains fraction exponent x a) (losses fraction exponent x a) (T .amounts .up) (T .amounts .down))
       in
-      ap₂ (markFor (F .fraction)) (sym (signed-distance (t .negative) (r .m) (F .sign) l)) X
+      ap₂ (markFor fraction) (sym (signed-distance b (r .m) (F .sign) l)) X
 
-  overflowed : i ≤ r .m → IsSum F x a (Overflow (at i))
-  overflowed h =
+  rounded-sum : RoundedSum F t g
+  rounded-sum = record { sound = ok; sign = T .sign; roundable = record { fraction = (ok .some, ok .few); shaped = T .amounts .shaped; low = T .amounts .low }; rounds = R }
+
+  -- ---- an overflow
+  over-answer : (o : ℕ) → o ≡ y → isFiniteOrdinal F o ≡ false → Refused (refusal 9) ≡ sumAnswer F x a
+  unfolding inRange
+  over-answer o O N = sym (ap (λ (z : Bool). cond z (sumIs F x a y) (Refused (refusal 9))) (ap (isFiniteOrdinal F) (sym O) ∙ N))
+
+  -- ---- in range
+  module _ (h : r .m < i) where
+    o : ordinalAt F (at (r .m)) ≡ y
+    o = sum-is (r .m) (omega arith)
+
+    fits : FiniteSigned F (at (r .m))
+    fits = record { sign = T .sign; m = h }
+
+    -- what is left over is the remainder
+    remainder-is : L.Finite fraction exponent x → L.Finite fraction exponent a → (z : Signed) → LeftOver F t (r .m) z → Represents F (remainder F x a y) z
+    remainder-is X A z left =
+        let Y : L.Finite fraction exponent y = subst (L.Finite fraction exponent) o (finite-ordinal F ok (at (r .m)) fits) in
+        let C = sum-remainder fraction exponent (ok .some) x a X A Y in
+        let q = remainder F x a y in
+        let v = magnitude fraction (r .m) in
+        let w = magnitude fraction (z .m) in
+        let u = signed-units F ok (at (r .m)) (omega arith) in
+        let over = ap (above fraction exponent) (sym o) ∙ u .0 in
+        let under = ap (below fraction exponent) (sym o) ∙ u .1 in
+        let whole : gains fraction exponent x a + (cond b v 0 + below fraction exponent q) ≡ cond b 0 v + above fraction exponent q + losses fraction exponent x a =
+        omega (arith, C .whole)
+        in
+        elim left [
+          | short same N ↦
+              value-represents F ok z q (C .finite) (rw same (T .sign))
+              (rw same (left-short b n v w _ _ _ _ (T .amounts .up) (T .amounts .down) N whole))
+          | past other N ↦
+              value-represents F ok z q (C .finite) (rw other (other-sign F ok (t .sign) (T .sign)))
+              (rw (other, other-set F ok (t .sign) (T .sign)) (left-past b n v w _ _ _ _ (T .amounts .up) (T .amounts .down) N whole))
+        ]
+
+    in-answer : (z : Signed) → ordinalAt F z ≡ remainder F x a y → answerOf F (Finite (at (r .m)) (markFor fraction (r .m) (r .exact))) z ≡ sumAnswer F x a
+    unfolding inRange
+    in-answer z Z =
+        ap₂ (λ (k q : ℕ). Is (pattern F (ordinalAt F (at (r .m)))) k (pattern F q)) (mark-is h) Z
+        ∙ ap (λ (p : ℕ). Is (pattern F p) (markOf F x a p) (pattern F (remainder F x a y))) o
+        ∙ sym (ap (λ (c : Bool). cond c (sumIs F x a y) (Refused (refusal 9))) (ap (isFiniteOrdinal F) (sym o) ∙ finite-yes F ok b (r .m) h))
+
+  -- the sum by its steps
+  abbrev made : Tested → Addition
+  made v = record { exact = t; rounding = g; tested = v }
+
+  overflowed : (v : Tested) → i ≤ r .m → IsSum F x a (made v) (Overflow (at i))
+  overflowed v h =
       let o = sum-is i (omega arith) in
-      record { within = refl; ordinal = o; answer = answer-by (ordinalAt F (at i)) false o (finite-no F ok (t .negative)) }
+      record { rounded = rounded-sum; within = refl; ordinal = o; answer = over-answer (ordinalAt F (at i)) o (finite-no F ok b) }
 
-  in-range : r .m < i → IsSum F x a (Finite (at (r .m)) (markFor (F .fraction) (r .m) (r .exact)))
-  in-range h =
-      let o = sum-is (r .m) (omega arith) in
-      record { within = h; ordinal = o; answer = ap (Is (pattern F (ordinalAt F (at (r .m))))) (mark-is h) ∙ answer-by (ordinalAt F (at (r .m))) true o (finite-yes F ok (t .negative) (r .m) h) }
+  in-range : (v : Tested) → L.Finite fraction exponent x → L.Finite fraction exponent a → (h : r .m < i) → IsSum F x a (made v) (Finite (at (r .m)) (markFor fraction (r .m) (r .exact)))
+  in-range v X A h = record {
+    rounded = rounded-sum;
+    within = fits h;
+    ordinal = o h;
+    answer = λ z left. let Z = remainder-is h X A z left in record { finite = Z .finite; is = in-answer h z (Z .ordinal) };
+  }
 
-  pub steps-sum : (o : Tested) → o ≡ testedOf F (t .negative) r → IsSum F x a o
-  steps-sum o O = elim (le-or-lt i (r .m)) [ inl h ↦ rw (O, le-leb i (r .m) h) (overflowed h) | inr h ↦ rw (O, lt-leb i (r .m) h) (in-range h) ]
+  pub steps-sum : (v : Tested) → L.Finite fraction exponent x → L.Finite fraction exponent a → v ≡ testedOf F (t .sign) r → IsSum F x a (made v) v
+  steps-sum v X A P = elim (le-or-lt i (r .m)) [
+    | inl h ↦ subst (IsSum F x a (made v)) (sym (P ∙ simp (le-leb i (r .m) h))) (overflowed v h)
+    | inr h ↦ subst (IsSum F x a (made v)) (sym (P ∙ simp (lt-leb i (r .m) h))) (in-range v X A h)
+  ]
 
 -- the same of the ordinals that the operands stand for, by the case v that was matched
-pub matched : {F : Format} {p q : ℕ} {x a : Signed} {s v : Tested} → Represents F p x → Represents F q a → s ≡ v → IsSum F (ordinalAt F x) (ordinalAt F a) s → IsSum F p q v
-matched X A e h = rw (e, X .ordinal, A .ordinal) at h
+pub matched : {F : Format} {p q : ℕ} {x a : Signed} {s : Addition} {v : Tested} → Represents F p x → Represents F q a → s .tested ≡ v
+    → IsSum F (ordinalAt F x) (ordinalAt F a) s (s .tested) → IsSum F p q s v
+matched {F} {p} {q} {x} {a} {s} X A e h = subst (IsSum F p q s) e (rw (X .ordinal, A .ordinal) at h)

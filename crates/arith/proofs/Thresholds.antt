@@ -11,7 +11,7 @@ use Rattle.ladder.specs.Rounding.{truncated}
 use Rattle.ladder.specs.Search.{crossingUp, crossingDown}
 use Rattle.ladder.proofs.Cases.{le-or-lt}
 use Rattle.ladder.proofs.Threshold.{half-under, threshold-up, threshold-up-inexact, threshold-down, threshold-down-inexact, threshold-high, threshold-low}
-use Rattle.arith.specs.declared.sum.Exact.{Exact}
+use Rattle.arith.specs.declared.threshold.Difference.{Difference}
 use Rattle.arith.specs.declared.format.Format.{Format}
 use Rattle.arith.specs.declared.sum.Rounded.{Rounded}
 use Rattle.arith.specs.declared.sum.Scaled.{Scaled}
@@ -24,7 +24,7 @@ use Rattle.arith.proofs.Halving.{halving-alike}
 difference : (n p q : ℕ) → 0 ≡ p - q → n ≡ q - p → q ≡ p + n
 difference n p q u d = omega arith
 
-module _ (F : Format) (a b : ℕ) (t : Exact) (s : Scaled) (r : Rounded) (ok : Sound F) (A : Finite F a) (B : Finite F b) (T : Crosses F a b t) (S : Scales (F .fraction + 1) t s) (R : r ≡ halvedOf (F .fraction) (s .significand * 2 ^ s .shift)) where
+module _ (F : Format) (a b : ℕ) (t : Difference) (s : Scaled) (r : Rounded) (ok : Sound F) (A : Finite F a) (B : Finite F b) (T : Crosses F a b t) (S : Scales (F .fraction + 1) (t .size) s) (R : r ≡ halvedOf (F .fraction) (s .significand * 2 ^ s .shift)) where
   abbrev f : ℕ
   f = F .fraction
 
@@ -32,7 +32,7 @@ module _ (F : Format) (a b : ℕ) (t : Exact) (s : Scaled) (r : Rounded) (ok : S
   e = F .exponent
 
   abbrev n : ℕ
-  n = sizeOf t
+  n = sizeOf (t .size)
 
   abbrev h : ℕ
   h = r .m

@@ -32,9 +32,9 @@ abbrev pub twoEnds : Interval → List ℕ
 twoEnds I = I .low ∷ I .high ∷ []
 
 -- ---- what each case tells
--- the forward sum: its pattern and mark
+-- the forward sum: its pattern, mark and remainder
 abbrev pub sumTold : Sum → Reply ℕ
-sumTold (Sum.Is p mark) = gives (p ∷ mark ∷ [])
+sumTold (Sum.Is p mark r) = gives (p ∷ mark ∷ r ∷ [])
 sumTold (Sum.Refused r) = refuses r
 
 -- the cut: its ends, or no value where nothing is shared

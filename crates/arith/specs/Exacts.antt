@@ -1,7 +1,7 @@
--- An exact sum in words of the machine, and its rounding: what the steps of the forward sum (Steps) and the functions below them make. For contracts inside the crate; no public one cites it. Assumes nothing.
+-- The size of an exact sum in words of the machine, and its rounding: what the steps of the forward sum (Steps) and the functions below them make. For contracts inside the crate; no public one cites it. Assumes nothing.
 use mathlib.Core.Path.{_≡_}
 use mathlib.Core.Logic.{_⊎_}
-use mathlib.Core.Bool.{Bool, cond}
+use mathlib.Core.Bool.{Bool, true, cond}
 use Prim.Native.Nat.{ℕ, _+_, _-_, _*_, _%_, _^_, _≤_, _<_}
 use lib.Dec.{eqb}
 use lib.Ieee.Nearest.{closest}
@@ -10,6 +10,7 @@ use Rattle.ladder.specs.Rounding.{round}
 use Rattle.arith.specs.declared.sum.Exact.{Exact}
 use Rattle.arith.specs.declared.sum.Scaled.{Scaled}
 use Rattle.arith.specs.declared.sum.Rounded.{Rounded}
+use Rattle.arith.specs.declared.sum.Rounding.{Rounding}
 
 -- ---- sizes of words
 -- the numbers of fraction bits that the arithmetic takes
@@ -25,11 +26,10 @@ Digits d = (1 ≤ d) × (d ≤ 53)
 abbrev pub partsOf : ℕ → ℕ → Scaled
 partsOf f m = record { significand = significand f m; shift = shift f m }
 
--- the sum of two floats by their m and n, of which m is no smaller, with the sign of m; opposite says that the signs differ
-abbrev pub exactOf : ℕ → Bool → Bool → ℕ → ℕ → Exact
-exactOf f negative opposite m n =
+-- the size of the sum of two floats by their m and n, of which m is no smaller; opposite says that the signs differ
+abbrev pub exactOf : ℕ → Bool → ℕ → ℕ → Exact
+exactOf f opposite m n =
     record {
-      negative = negative;
       opposite = opposite;
       larger = significand f m;
       smaller = significand f n;
@@ -37,9 +37,17 @@ exactOf f negative opposite m n =
       shift = shift f n;
     }
 
--- the size of an exact sum, in units
+-- the size of an exact sum, in steps of 2^shift units
+unfoldable pub stepsOf : Exact → ℕ
+stepsOf t = cond (t .opposite) (t .larger * 2 ^ t .gap - t .smaller) (t .larger * 2 ^ t .gap + t .smaller)
+
+-- and in units
 unfoldable pub sizeOf : Exact → ℕ
-sizeOf t = cond (t .opposite) (t .larger * 2 ^ t .gap - t .smaller) (t .larger * 2 ^ t .gap + t .smaller) * 2 ^ t .shift
+sizeOf t = stepsOf t * 2 ^ t .shift
+
+-- s in the steps of t, than which it is no finer
+abbrev pub coarseSteps : Exact → Scaled → ℕ
+coarseSteps t s = s .significand * 2 ^ (s .shift - t .shift)
 
 -- what rounding relies on: both significands have at most d + 1 digits; where there is a gap, the larger has all of them; the smaller part is no larger than the larger one; the exponent fits a word
 pub record Shaped (d : ℕ) (t : Exact) : Type 0 where
@@ -59,10 +67,10 @@ pub record Roundable (f : ℕ) (t : Exact) : Type 0 where
   pub shaped : Shaped f t
   pub low : Low f t
 
--- t is p - n units, above zero or below it, and rounding can take it
-pub record Amounts (f d p n : ℕ) (t : Exact) : Type 0 where
-  pub up : cond (t .negative) 0 (sizeOf t) ≡ p - n
-  pub down : cond (t .negative) (sizeOf t) 0 ≡ n - p
+-- t is the size of p - n units, which lie below zero where negative says so, and rounding can take it
+pub record Amounts (f d p n : ℕ) (negative : Bool) (t : Exact) : Type 0 where
+  pub up : cond negative 0 (sizeOf t) ≡ p - n
+  pub down : cond negative (sizeOf t) 0 ≡ n - p
   pub shaped : Shaped d t
   pub low : Low f t
 
@@ -71,9 +79,18 @@ pub record Amounts (f d p n : ℕ) (t : Exact) : Type 0 where
 unfoldable pub roundingOf : ℕ → ℕ → Rounded
 roundingOf f n = record { m = round f n; exact = eqb (magnitude f (round f n)) n }
 
--- a number of f + 1 + excess digits rounded to f + 1, and whether nothing was lost: n has its digits from the top of a word on
-abbrev pub leadingOf : ℕ → ℕ → ℕ → Rounded
-leadingOf f n excess = record { m = excess * 2 ^ f + closest n (2 ^ (63 - f)); exact = eqb (n % 2 ^ (63 - f)) 0 }
+-- a number of f + 1 + excess digits rounded to f + 1, and the result taken apart: n has its digits from the top of a word on
+abbrev pub leadingOf : ℕ → ℕ → ℕ → Rounding
+leadingOf f n excess =
+    let kept = closest n (2 ^ (63 - f)) in
+    record {
+      result = record { m = excess * 2 ^ f + kept; exact = eqb (n % 2 ^ (63 - f)) 0 };
+      kept = record { significand = kept; shift = excess };
+    }
+
+-- m itself, of which every digit is kept
+abbrev pub keptOf : ℕ → Rounding
+keptOf m = record { result = record { m = m; exact = true }; kept = record { significand = m; shift = 0 } }
 
 -- larger and smaller, added, or taken away where the signs are opposite
 abbrev pub joinedOf : Bool → ℕ → ℕ → ℕ → Scaled
@@ -84,7 +101,16 @@ pub data Alike (d n m : ℕ) : Type 0 where
   same : n ≡ m → Alike d n m
   sticky : (j a b c : ℕ) → 2 * 2 ^ d ≤ a → 0 < b → b < 2 ^ j → 0 < c → c < 2 ^ j → n ≡ a * 2 ^ j + b → m ≡ a * 2 ^ j + c → Alike d n m
 
--- s rounds as the exact sum t does, and its shift is no larger than t's exponent
+-- s rounds as the exact sum t does, and its shift is no smaller than t's and no larger than t's exponent
 pub record Scales (d : ℕ) (t : Exact) (s : Scaled) : Type 0 where
   pub alike : Alike d (s .significand * 2 ^ s .shift) (sizeOf t)
+  pub fine : t .shift ≤ s .shift
   pub low : s .shift ≤ t .gap + t .shift
+
+-- ---- back from units to an m
+-- n * 2^shift units are the value of an m, which fits a word
+pub record Encodable (f n shift : ℕ) : Type 0 where
+  pub fraction : Fraction f
+  pub some : 0 < n
+  pub few : n < 2 * 2 ^ f
+  pub low : shift * 2 ^ f ≤ 2 ^ 63

@@ -5,6 +5,7 @@ use Prim.Native.Nat.{ℕ, _^_, _≤_}
 use lib.Dec.{eqb}
 use Rattle.ladder.specs.Ordinal as L
 use Rattle.ladder.specs.Sum as S
+use Rattle.ladder.specs.Remainder as R
 use Rattle.arith.specs.declared.format.Format.{Format}
 
 -- the format with f fraction bits and e exponent bits
@@ -50,6 +51,10 @@ Finite F r = L.Finite (F .fraction) (F .exponent) r
 -- x ⊕ a on ordinals
 abbrev pub sum : Format → ℕ → ℕ → ℕ
 sum F x a = S.sum (F .fraction) (F .exponent) x a
+
+-- what s leaves over of the exact sum of x and a, on ordinals
+abbrev pub remainder : Format → ℕ → ℕ → ℕ → ℕ
+remainder F x a s = R.remainder (F .fraction) (F .exponent) x a s
 
 -- the ordinal of the value with the other sign
 abbrev pub mirrored : Format → ℕ → ℕ

@@ -9,3 +9,4 @@ pub mod Searches
 pub mod Narrows
 pub mod Answers
 pub mod Replies
+pub mod Additions

@@ -7,7 +7,7 @@ use Rattle.arith.specs.declared.refusal.Refusal.{Refusal}
 use Rattle.arith.specs.declared.range.Range.{Range}
 use Rattle.arith.specs.declared.interval.Interval.{Interval}
 use Rattle.arith.specs.Refusals.{refusal}
-use Rattle.arith.specs.Formats.{isKnown, formatOf, isFinite, ordinal, pattern, sum}
+use Rattle.arith.specs.Formats.{isKnown, formatOf, isFinite, ordinal, pattern, sum, remainder}
 use Rattle.arith.specs.Sums.{isFiniteOrdinal, markOf}
 use Rattle.arith.specs.Intervals.{endsFinite, rangeOf, intervalOf, isOrdered, common, translated, reflected}
 use Rattle.arith.specs.Narrows.{narrowing, written}
@@ -61,12 +61,12 @@ sumOf width x a = let F = formatOf width in sum F (ordinal F x) (ordinal F a)
 abbrev pub addTests : ℕ → ℕ → ℕ → List Test
 addTests width x a = known width ∷ finite width x ∷ finite width a ∷ finiteSum width (sumOf width x a) ∷ []
 
--- its pattern and mark
+-- its pattern, its mark, and the pattern of what it leaves over
 abbrev pub addValues : ℕ → ℕ → ℕ → List ℕ
 addValues width x a =
     let F = formatOf width in
     let s = sumOf width x a in
-    pattern F s ∷ markOf F (ordinal F x) (ordinal F a) s ∷ []
+    pattern F s ∷ markOf F (ordinal F x) (ordinal F a) s ∷ pattern F (remainder F (ordinal F x) (ordinal F a) s) ∷ []
 
 -- ---- intervals
 -- the ends of a range, each in its one pattern

@@ -1,4 +1,4 @@
--- The whole answer of the forward sum: 01's marks, and its refusals in their order. Assumes nothing.
+-- The whole answer of the forward sum: 01's marks, 02's remainder, and the refusals in their order. Assumes nothing.
 use mathlib.Core.Bool.{Bool, cond, _&&_}
 use Prim.Native.Nat.{ℕ, _+_, _-_, _^_}
 use lib.Dec.{ltb, eqb}
@@ -8,7 +8,7 @@ use Rattle.arith.specs.declared.format.Format.{Format}
 use Rattle.arith.specs.declared.sum.Sum.{Sum}
 use Rattle.arith.specs.declared.sum.Sum.the-variants.{Is, Refused}
 use Rattle.arith.specs.Refusals.{refusal, orRefuse}
-use Rattle.arith.specs.Formats.{isKnown, formatOf, isFinite, ordinal, pattern, sum}
+use Rattle.arith.specs.Formats.{isKnown, formatOf, isFinite, ordinal, pattern, sum, remainder}
 
 -- whether an ordinal is a finite float's
 unfoldable pub isFiniteOrdinal : Format → ℕ → Bool
@@ -28,9 +28,13 @@ unfoldable pub markOf : Format → ℕ → ℕ → ℕ → ℕ
 unfolding isExact
 markOf F x a s = markFor (F .fraction) ((s - F .sign) + (F .sign - s)) (isExact F x a s)
 
--- the range test: the rounded sum s of x and a with its mark, or refusal 9
+-- the rounded sum s of x and a with its mark and what it leaves over
+abbrev pub sumIs : Format → ℕ → ℕ → ℕ → Sum
+sumIs F x a s = Is (pattern F s) (markOf F x a s) (pattern F (remainder F x a s))
+
+-- the range test: that, or refusal 9, which has no remainder
 unfoldable pub inRange : Format → ℕ → ℕ → ℕ → Sum
-inRange F x a s = cond (isFiniteOrdinal F s) (Is (pattern F s) (markOf F x a s)) (Refused (refusal 9))
+inRange F x a s = cond (isFiniteOrdinal F s) (sumIs F x a s) (Refused (refusal 9))
 
 -- the answer for two finite floats
 abbrev pub sumAnswer : Format → ℕ → ℕ → Sum

@@ -8,17 +8,17 @@ use Rattle.ladder.specs.Search as S
 use Rattle.arith.specs.declared.format.Format.{Format}
 use Rattle.arith.specs.declared.sum.Exact.{Exact}
 use Rattle.arith.specs.declared.sum.Rounded.{Rounded}
+use Rattle.arith.specs.declared.threshold.Difference.{Difference}
 use Rattle.arith.specs.Exacts.{Amounts}
 
 -- t is twice the midpoint of b and its lower neighbour, less twice a
-abbrev pub Crosses : Format → ℕ → ℕ → Exact → Type 0
-Crosses F a b = Amounts (F .fraction) (F .fraction + 1) (crossingUp (F .fraction) (F .exponent) a b) (crossingDown (F .fraction) (F .exponent) a b)
+abbrev pub Crosses : Format → ℕ → ℕ → Difference → Type 0
+Crosses F a b t = Amounts (F .fraction) (F .fraction + 1) (crossingUp (F .fraction) (F .exponent) a b) (crossingDown (F .fraction) (F .exponent) a b) (t .negative) (t .size)
 
 -- the larger significand doubled with i added, the smaller one with j
 abbrev pub doubledOf : ℕ → ℕ → Exact → Exact
 doubledOf i j t =
     record {
-      negative = t .negative;
       opposite = t .opposite;
       larger = 2 * t .larger + i;
       smaller = 2 * t .smaller + j;

@@ -130,10 +130,12 @@ fn between_sums(low: Sum, high: Sum) -> Image
         Sum::Is {
             pattern: p,
             mark: _,
+            remainder: _,
         } => match high {
             Sum::Is {
                 pattern: q,
                 mark: _,
+                remainder: _,
             } => Image::Is(Interval { low: p, high: q }),
             Sum::Refused(r) => Image::Refused(r),
         },

@@ -9,6 +9,7 @@ mod operand;
 mod pattern;
 mod range;
 pub mod refusal;
+mod remainder;
 pub mod sum;
 mod threshold;
 mod words;

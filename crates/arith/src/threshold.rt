@@ -15,13 +15,18 @@ use crate::words::dropped;
 use crate::words::shift_left;
 use crate::words::shift_right;
 
+// An exact difference: whether it is below zero, and its size.
+pub(crate) struct Difference {
+    pub(crate) negative: bool,
+    pub(crate) size: Exact,
+}
+
 // In half units, with a half step added to one of the significands.
 fn double(t: Exact, at_larger: u64, at_smaller: u64) -> Exact
     requires { ⌜ (2 * (t .larger) < 2 ^ 63) × (2 * (t .smaller) < 2 ^ 63) × («at_larger» ≤ 1) × («at_smaller» ≤ 1) ⌝ }
     ensures { λ r. ⌜ r ≡ doubledOf «at_larger» «at_smaller» t ⌝ }
 {
     Exact {
-        negative: t.negative,
         opposite: t.opposite,
         larger: 2 * t.larger + at_larger,
         smaller: 2 * t.smaller + at_smaller,
@@ -31,7 +36,7 @@ fn double(t: Exact, at_larger: u64, at_smaller: u64) -> Exact
 }
 
 // Twice the midpoint of b and the float below it, less twice a. The midpoint lies half a step beyond the one of the two that is nearer to zero.
-fn crossing(format: Format, a: u64, b: u64) -> Exact
+fn crossing(format: Format, a: u64, b: u64) -> Difference
     requires { ⌜ (Sound format) × (Finite format a) × (Finite format b) ⌝ }
     ensures { λ t. ⌜ Crosses format a b t ⌝ }
 {
@@ -47,9 +52,15 @@ fn crossing(format: Format, a: u64, b: u64) -> Exact
     };
     let n = distance_from_zero(format, a);
     if n <= m {
-        return double(combine(fraction, midpoint_negative, opposite, m, n), 1, 0);
+        return Difference {
+            negative: midpoint_negative,
+            size: double(combine(fraction, opposite, m, n), 1, 0),
+        };
     }
-    double(combine(fraction, minus_a_negative, opposite, n, m), 0, 1)
+    Difference {
+        negative: minus_a_negative,
+        size: double(combine(fraction, opposite, n, m), 0, 1),
+    }
 }
 
 // Half of n * 2^shift units, rounded toward zero.
@@ -88,7 +99,8 @@ pub(crate) fn threshold(format: Format, a: u64, b: u64) -> u64
     let zero = format.sign;
     let fraction = format.fraction;
     let t = crossing(format, a, b);
-    let s = scale(fraction + 1, t);
+    let size = t.size;
+    let s = scale(fraction + 1, size);
     let r = halve(fraction, s.significand, s.shift);
     if t.negative {
         let up = if r.exact { b % 2 } else { 0 };

@@ -11,6 +11,16 @@ pub(crate) fn shift_left(n: u64, k: u64) -> u64
     n << k
 }
 
+// The low word of n * 2^k, for any k
+pub(crate) fn shift_wrapping(n: u64, k: u64) -> u64
+    ensures { λ r. ⌜ r ≡ (n * 2 ^ k) % 2 ^ 64 ⌝ }
+{
+    if k < 64 {
+        return n << k;
+    }
+    0
+}
+
 // n / 2^k, for any k
 pub(crate) fn shift_right(n: u64, k: u64) -> u64
     ensures { λ r. ⌜ r ≡ n / 2 ^ k ⌝ }

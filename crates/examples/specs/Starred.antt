@@ -20,20 +20,20 @@ use Rattle.propagation.specs.Narrowings.{narrowSheetOf}
 use Rattle.listing.specs.Listings.{runOf, listingOf}
 use Rattle.examples.specs.Quoted.{bytes}
 
--- ---- sums
+-- ---- sums, each with its mark and what rounding left over (02)
 pub record Sums : Type 0 where
   -- 1 ⊕ half an ulp: a tie, to the even 1
-  pub tie : addOf 64 0x3FF0000000000000 0x3CA0000000000000 ≡ Is 0x3FF0000000000000 1
+  pub tie : addOf 64 0x3FF0000000000000 0x3CA0000000000000 ≡ Is 0x3FF0000000000000 1 0x3CA0000000000000
   -- a little more than half an ulp: up
-  pub past-tie : addOf 64 0x3FF0000000000000 0x3CA0000000000001 ≡ Is 0x3FF0000000000001 1
+  pub past-tie : addOf 64 0x3FF0000000000000 0x3CA0000000000001 ≡ Is 0x3FF0000000000001 1 0xBC9FFFFFFFFFFFFE
   -- the smallest float twice
-  pub smallest : addOf 64 0x0000000000000001 0x0000000000000001 ≡ Is 0x0000000000000002 0
+  pub smallest : addOf 64 0x0000000000000001 0x0000000000000001 ≡ Is 0x0000000000000002 0 0x0000000000000000
   -- the largest float and less than half its ulp
-  pub largest : addOf 64 0x7FEFFFFFFFFFFFFF 0x7C80000000000000 ≡ Is 0x7FEFFFFFFFFFFFFF 1
+  pub largest : addOf 64 0x7FEFFFFFFFFFFFFF 0x7C80000000000000 ≡ Is 0x7FEFFFFFFFFFFFFF 1 0x7C80000000000000
   -- the largest float and half its ulp: no finite sum
   pub too-large : addOf 64 0x7FEFFFFFFFFFFFFF 0x7C90000000000000 ≡ Refused (refusal 9)
   -- the tie at width 32
-  pub tie-32 : addOf 32 0x3F800000 0x33800000 ≡ Is 0x3F800000 1
+  pub tie-32 : addOf 32 0x3F800000 0x33800000 ≡ Is 0x3F800000 1 0x33800000
 
 -- ---- narrowings
 -- an interval by its ends

@@ -23,14 +23,14 @@ module _ (f e : ℕ) (some : 1 ≤ f) where
 
   -- ---- multiples of 2^k units
   -- by the side of zero
-  up-multiple : (k r : ℕ) → s ≤ r → 2 ^ k ∣ above f e r → Multiple f e k r
+  pub up-multiple : (k r : ℕ) → s ≤ r → 2 ^ k ∣ above f e r → Multiple f e k r
   up-multiple k r h d = record { up = d; down = rw (below-none f e r h) (dvd-zero (2 ^ k)) }
 
-  down-multiple : (k r : ℕ) → r ≤ s → 2 ^ k ∣ below f e r → Multiple f e k r
+  pub down-multiple : (k r : ℕ) → r ≤ s → 2 ^ k ∣ below f e r → Multiple f e k r
   down-multiple k r h d = record { up = rw (above-none f e r h) (dvd-zero (2 ^ k)); down = d }
 
   -- a finite sum of two is one
-  multiple-sum : (k x a : ℕ) → Multiple f e k x → Multiple f e k a → Finite f e (sum f e x a) → Multiple f e k (sum f e x a)
+  pub multiple-sum : (k x a : ℕ) → Multiple f e k x → Multiple f e k a → Finite f e (sum f e x a) → Multiple f e k (sum f e x a)
   unfolding sum
   multiple-sum k x a mx ma n =
       let P = gains f e x a in

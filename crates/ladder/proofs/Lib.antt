@@ -35,3 +35,5 @@ pub mod Operand
 pub mod Corners
 pub mod Assembly
 pub mod Trimming
+pub mod Exactness
+pub mod Remainder

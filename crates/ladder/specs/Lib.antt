@@ -2,6 +2,7 @@ pub mod Magnitude
 pub mod Rounding
 pub mod Ordinal
 pub mod Sum
+pub mod Remainder
 pub mod Nearest
 pub mod Values
 pub mod Solution

@@ -1,4 +1,4 @@
--- What a C program gets of the forward sum: 0 or the refusal number, and at 0 the pattern and the mark in its two words. Assumes nothing.
+-- What a C program gets of the forward sum: 0 or the refusal number, and at 0 the pattern, the mark and the remainder in its three words. Assumes nothing.
 use mathlib.Core.Path.{_≡_}
 use mathlib.Core.Bool.{cond}
 use mathlib.Core.List.{List, [], _∷_}
@@ -13,16 +13,16 @@ use Rattle.arith.specs.Replies.{replyAfter, addTests, addValues}
 -- ---- the answer, by the cases of the sum's
 -- the number returned
 abbrev pub sumNumber : Sum → ℕ
-sumNumber (Is p mark) = 0
+sumNumber (Is p mark q) = 0
 sumNumber (Refused r) = r .number
 
--- what the words then hold: the pattern and the mark, or on a refusal what they held
+-- what the words then hold: the pattern, the mark and the remainder, or on a refusal what they held
 abbrev pub sumWords : List ℕ → Sum → List ℕ
-sumWords s (Is p mark) = p ∷ mark ∷ []
+sumWords s (Is p mark q) = p ∷ mark ∷ q ∷ []
 sumWords s (Refused r) = s
 
 -- ---- the answer, by the reply due
--- 01's tests of the forward sum in their order; then its pattern and mark
+-- 01's tests of the forward sum in their order; then its pattern, mark and remainder
 abbrev pub sumReply : ℕ → ℕ → ℕ → Reply ℕ
 sumReply width x a = replyAfter (addTests width x a) (addValues width x a)
 
@@ -36,5 +36,5 @@ pub record ExportsSum (width x a : ℕ) (before : List ℕ) (r : ℕ) (after : L
   pub words : after ≡ sumWords before (addOf width x a)
   pub told : r ≡ sumReply width x a .number
   pub stored : after ≡ storedBy (sumReply width x a) before
-  -- on any refusal both words are as they were
+  -- on any refusal the words are as they were
   pub kept : (r ≡ 0 → ⊥) → after ≡ before

@@ -3,14 +3,18 @@ ghost use Rattle.test_exports.specs.Exports.{ExportsSum};
 use arith::sum::Sum;
 use arith::sum::add;
 
-// The forward sum: 0 with the pattern and the mark in `out`, or the refusal number with `out` as it was.
+// The forward sum: 0 with the pattern, the mark and the remainder in `out`, or the refusal number with `out` as it was.
 #[no_mangle]
-pub extern "C" fn test_add(width: u64, x: u64, a: u64, out: &mut [u64; 2]) -> u64
+pub extern "C" fn test_add(width: u64, x: u64, a: u64, out: &mut [u64; 3]) -> u64
     ensures { λ r. ⌜ ExportsSum width x a (now (out .entry)) r (now (out .exit)) ⌝ }
 {
     match add(width, x, a) {
-        Sum::Is { pattern, mark } => {
-            *out = [pattern, mark];
+        Sum::Is {
+            pattern,
+            mark,
+            remainder,
+        } => {
+            *out = [pattern, mark, remainder];
             0
         }
         Sum::Refused(refusal) => refusal.number,

@@ -1,26 +1,39 @@
 -- `arith::sum::add_finite` meets its contract. Assumes nothing.
 use borrow.Author.Needs.{needs}
-use mathlib.Core.Path.{ap, _∙_}
+use mathlib.Core.Path.{ap, ap₂, _∙_}
 use Prim.Native.Nat.{ℕ}
 use Rattle.arith.specs.declared.sum.Tested.the-variants.{Finite}
 use Rattle.arith.specs.declared.sum.Sum.the-variants.{Is, Refused}
 use Rattle.arith.specs.Formats.{ordinal}
-use Rattle.arith.specs.Steps.{IsSum}
+use Rattle.arith.specs.Steps.{IsSum, AnswersWith}
 use Rattle.arith.proofs.Sums.{matched}
 use Rattle.arith.proofs.sum.add_finite.Statement.{statement}
 use Rattle.arith.proofs.sum.add_finite.Tie as tie
 
 in-range : (c : tie.After-known-told) → let a = c .before .before .before .before .before .before .args in
-    IsSum (a .format) (ordinal (a .format) (a .x)) (ordinal (a .format) (a .a)) (Finite (c .before .sum .given .0 .0) (c .before .sum .given .0 .1 .0))
+    IsSum (a .format) (ordinal (a .format) (a .x)) (ordinal (a .format) (a .a)) (c .before .before .before .add-signed .result) (Finite (c .before .tested .given .0 .0) (c .before .tested .given .0 .1 .0))
 in-range c =
     let s = c .before .before .before in
-    matched (s .before .before .from-pattern .ensures) (s .before .from-pattern2 .ensures) (c .before .sum .given .1) (s .add-signed .ensures)
+    matched (s .before .before .from-pattern .ensures) (s .before .from-pattern2 .ensures) (c .before .tested .given .1) (s .add-signed .ensures)
+
+-- with what is left over
+whole : (c : tie.After-left-over) → let a = c .before .before .before .before .before .before .before .args in
+    AnswersWith (a .format) (ordinal (a .format) (a .x)) (ordinal (a .format) (a .a)) (Finite (c .before .before .tested .given .0 .0) (c .before .before .tested .given .0 .1 .0)) (c .left-over .result)
+whole c = in-range (c .before) .answer (c .left-over .result) (c .left-over .ensures)
+
+left-over-requires : tie.Need-left-over-requires
+left-over-requires c κs = in-range c .rounded
 
 pattern-requires : tie.Need-pattern-requires
-pattern-requires c κs = (c .before .before .before .before .before .before .pre .sound, in-range c .within)
+pattern-requires c κs = (c .before .before .before .before .before .before .before .pre .sound, in-range (c .before) .within)
+
+pattern-requires-2 : tie.Need-pattern-requires-2
+pattern-requires-2 c κs = (c .before .before .before .before .before .before .before .before .pre .sound, whole (c .before) .finite)
 
 returns : tie.Need-returns
-returns c = ap (λ (p : ℕ). Is p (c .before .before .sum .given .0 .1 .0)) (c .pattern .ensures) ∙ in-range (c .before) .answer
+returns c =
+    let l = c .before .before in
+    ap₂ (λ (p r : ℕ). Is p (l .before .before .tested .given .0 .1 .0) r) (c .before .pattern .ensures) (c .pattern2 .ensures) ∙ whole l .is
 
 returns-2 : tie.Need-returns-2
 returns-2 c =
@@ -31,4 +44,5 @@ returns-2 c =
 pub add-finite-spec : {M : Type 1} → statement M
 add-finite-spec =
     tie.close
-    (tie.spec (λ c κs. search needs) (λ c κs. search needs) (λ c κs. search needs) (λ c. search needs) pattern-requires (λ c. search needs) (λ c κs. tt) returns returns-2)
+    (tie.spec (λ c κs. search needs) (λ c κs. search needs) (λ c κs. search needs) (λ c. search needs)
+    left-over-requires pattern-requires pattern-requires-2 (λ c. search needs) (λ c κs. tt) returns returns-2)

@@ -4,14 +4,8 @@ use Rattle.arith.proofs.Decoding.{gap-le}
 use Rattle.arith.proofs.sum.combine.Statement.{statement}
 use Rattle.arith.proofs.sum.combine.Tie as tie
 
-decode-requires : tie.Need-decode-requires
-decode-requires c κs = search needs
-
-decode-requires-2 : tie.Need-decode-requires-2
-decode-requires-2 c κs = search needs
-
-sub-t8 : tie.Need-sub-t8
-sub-t8 c =
+sub-t7 : tie.Need-sub-t7
+sub-t7 c =
     let a = c .before .before .before .before .args in
     let p = c .before .before .before .decode in
     let q = c .before .before .decode2 in
@@ -21,4 +15,4 @@ returns : tie.Need-returns
 returns c = simp (c .before .before .before .decode .ensures, c .before .before .decode2 .ensures)
 
 pub combine-spec : {M : Type 1} → statement M
-combine-spec = tie.close (tie.spec decode-requires decode-requires-2 sub-t8 returns)
+combine-spec = tie.close (tie.spec (λ c κs. search needs) (λ c κs. search needs) sub-t7 returns)

@@ -1,9 +1,8 @@
 -- `arith::sum::round_sum` meets its contract. Assumes nothing.
-use mathlib.Core.Path.{_∙_}
 use Prim.Native.Nat.{_^_}
 use native.Mathlib.Omega.{arith}
 use native.Mathlib.Nat.{le-trans, mul-le-mul-right}
-use Rattle.arith.proofs.Roundings.{rounding-alike, rounds}
+use Rattle.arith.proofs.Roundings.{rounds}
 use Rattle.arith.proofs.sum.round_sum.Statement.{statement}
 use Rattle.arith.proofs.sum.round_sum.Tie as tie
 
@@ -18,8 +17,7 @@ round-units-requires c κs =
 returns : tie.Need-returns
 returns c =
     let z = c .before .before in
-    let e = c .round-units .ensures ∙ rounding-alike (z .args .fraction) _ _ (z .pre .fraction .0) (c .before .scale .ensures .alike) in
-    rounds (z .args .fraction) _ _ (z .pre .fraction .0) e
+    rounds (z .args .fraction) (z .args .t) (c .before .scale .result) (c .round-units .result) (z .pre .fraction .0) (c .before .scale .ensures) (c .round-units .ensures)
 
 pub round-sum-spec : {M : Type 1} → statement M
 round-sum-spec = tie.close (tie.spec scale-requires round-units-requires returns)

@@ -1,6 +1,5 @@
 -- `arith::sum::round_units` meets its contract. Assumes nothing.
 use borrow.Author.Needs.{needs}
-use mathlib.Core.Path.{_∙_}
 use Prim.Native.Nat.{_<_, _≤_, _^_}
 use native.Mathlib.Omega.{arith}
 use native.Mathlib.Nat.{pos-of-ne-zero}
@@ -10,7 +9,7 @@ use Rattle.arith.proofs.sum.round_units.Statement.{statement}
 use Rattle.arith.proofs.sum.round_units.Tie as tie
 
 returns : tie.Need-returns
-returns c = let s = c .before in units-zero (s .args .fraction) (s .args .n) (s .args .shift) (s .pre .0) (c .if1 .taken)
+returns c = let s = c .before .before in units-zero (s .args .fraction) (s .args .n) (s .args .shift) (s .pre .0) (c .before .if1 .taken) (c .keep .result) (c .keep .ensures)
 
 -- how many digits n has, and how far it is shifted
 fits : (c : tie.After-digits) → (0 < c .digits .result) × (c .digits .result ≤ 64) × (c .before .before .args .shift ≤ 2 ^ 62)
@@ -31,7 +30,9 @@ shift-left-requires c κs =
     (omega (arith, s .pre .0 .1, fits (c .before)), shifted-lt (s .args .n) (s .args .shift) 64 (omega (arith, s .pre .0 .1, c .before .digits .ensures)))
 
 returns-2 : tie.Need-returns-2
-returns-2 c = let s = c .before .before .before .before in units-few (s .args .fraction) (s .args .n) (s .args .shift) (s .pre .0) _ (c .shift-left .ensures) (omega arith)
+returns-2 c =
+    let s = c .before .before .before .before .before in
+    units-few (s .args .fraction) (s .args .n) (s .args .shift) (s .pre .0) _ (c .before .shift-left .ensures) (omega arith) (c .keep2 .result) (c .keep2 .ensures)
 
 sub-shift-left : tie.Need-sub-shift-left
 sub-shift-left c = omega (arith, fits (c .before))
@@ -53,13 +54,11 @@ returns-3 : tie.Need-returns-3
 returns-3 c =
     let s = c .before .before .before .before .before in
     let d = c .before .before .before .digits in
-    c .round-leading .ensures
-    ∙ rw (c .before .shift-left2 .ensures, d .ensures)
-    (units-many (s .args .fraction) (s .args .n) (s .args .shift) (s .pre .0) (pos-of-ne-zero (c .before .before .before .before .if1 .left)) (s .fits .n .fits)
-    (omega (arith, d .ensures, c .before .before .if2 .left)))
+    units-many (s .args .fraction) (s .args .n) (s .args .shift) (s .pre .0) (pos-of-ne-zero (c .before .before .before .before .if1 .left)) (s .fits .n .fits)
+    (omega (arith, d .ensures, c .before .before .if2 .left)) (c .round-leading .result) (rw (c .before .shift-left2 .ensures, d .ensures) at (c .round-leading .ensures))
 
 pub round-units-spec : {M : Type 1} → statement M
 round-units-spec =
     tie.close
-    (tie.spec returns (λ c κs. tt) add-if2 (λ c. search needs) shift-left-requires returns-2 sub-shift-left shift-left-requires-2
+    (tie.spec (λ c κs. tt) returns (λ c κs. tt) add-if2 (λ c. search needs) shift-left-requires (λ c κs. tt) returns-2 sub-shift-left shift-left-requires-2
     add-round-leading (λ c. search needs) (λ c. search needs) round-leading-requires returns-3)

@@ -9,19 +9,19 @@ use Rattle.arith.proofs.sum.sum_of.Statement.{statement}
 use Rattle.arith.proofs.sum.sum_of.Tie as tie
 
 in-range : (c : tie.After-known-told) → let a = c .before .before .before .before .before .before .args in
-    IsSum (a .format) (a .x) (a .a) (Finite (c .before .sum .given .0 .0) (c .before .sum .given .0 .1 .0))
+    IsSum (a .format) (a .x) (a .a) (c .before .before .before .add-signed .result) (Finite (c .before .tested .given .0 .0) (c .before .tested .given .0 .1 .0))
 in-range c =
     let s = c .before .before .before in
-    matched (s .before .before .from-ordinal .ensures) (s .before .from-ordinal2 .ensures) (c .before .sum .given .1) (s .add-signed .ensures)
+    matched (s .before .before .from-ordinal .ensures) (s .before .from-ordinal2 .ensures) (c .before .tested .given .1) (s .add-signed .ensures)
 
 overflowed : (c : tie.After-known-told2) → let a = c .before .before .before .before .before .before .args in
-    IsSum (a .format) (a .x) (a .a) (Overflow (c .before .infinity .given .0 .0))
+    IsSum (a .format) (a .x) (a .a) (c .before .before .before .add-signed .result) (Overflow (c .before .tested2 .given .0 .0))
 overflowed c =
     let s = c .before .before .before in
-    matched (s .before .before .from-ordinal .ensures) (s .before .from-ordinal2 .ensures) (c .before .infinity .given .1) (s .add-signed .ensures)
+    matched (s .before .before .from-ordinal .ensures) (s .before .from-ordinal2 .ensures) (c .before .tested2 .given .1) (s .add-signed .ensures)
 
 ordinal-requires : tie.Need-ordinal-requires
-ordinal-requires c κs = (c .before .before .before .before .before .before .pre .sound, omega (arith, in-range c .within))
+ordinal-requires c κs = (c .before .before .before .before .before .before .pre .sound, omega (arith, in-range c .within .m))
 
 ordinal-requires-2 : tie.Need-ordinal-requires-2
 ordinal-requires-2 c κs = (c .before .before .before .before .before .before .pre .sound, omega (arith, overflowed c .within))

@@ -31,7 +31,7 @@ combine-requires : tie.Need-combine-requires
 combine-requires c κs = search needs
 
 double-requires : tie.Need-double-requires
-double-requires c κs = let z = c .before .before .before .before in let f = combined-fits (z .args .format .fraction) _ _ _ _ (c .combine .result) (z .pre .0 .few) (c .before .if2 .taken) (c .combine .ensures) in (f .0, f .1, omega arith, omega arith)
+double-requires c κs = let z = c .before .before .before .before in let f = combined-fits (z .args .format .fraction) _ _ _ (c .combine .result) (z .pre .0 .few) (c .before .if2 .taken) (c .combine .ensures) in (f .0, f .1, omega arith, omega arith)
 
 returns : tie.Need-returns
 returns c =
@@ -43,7 +43,7 @@ combine-requires-2 : tie.Need-combine-requires-2
 combine-requires-2 c κs = search needs
 
 double-requires-2 : tie.Need-double-requires-2
-double-requires-2 c κs = let z = c .before .before .before .before in let f = combined-fits (z .args .format .fraction) _ _ _ _ (c .combine2 .result) (z .pre .0 .few) (omega arith) (c .combine2 .ensures) in (f .0, f .1, omega arith, omega arith)
+double-requires-2 c κs = let z = c .before .before .before .before in let f = combined-fits (z .args .format .fraction) _ _ _ (c .combine2 .result) (z .pre .0 .few) (omega arith) (c .combine2 .ensures) in (f .0, f .1, omega arith, omega arith)
 
 returns-2 : tie.Need-returns-2
 returns-2 c =
