@@ -14,16 +14,25 @@ mod cases;
 #[path = "../target/bench/earlier_bindings.rs"]
 mod earlier_bindings;
 #[cfg(earlier)]
+#[allow(dead_code)]
 #[path = "../target/bench/earlier_exports.rs"]
 mod earlier_exports;
+#[allow(dead_code)]
 #[path = "../tests/common/ends.rs"]
 mod ends;
+#[allow(dead_code)]
 #[path = "../tests/common/exports.rs"]
 mod exports;
 #[path = "../tests/common/floats.rs"]
 mod floats;
 #[path = "../tests/common/narrowing.rs"]
 mod narrowing;
+#[path = "../tests/common/ranges.rs"]
+mod ranges;
+#[path = "../tests/common/records.rs"]
+mod records;
+#[path = "../tests/common/repeated.rs"]
+mod repeated;
 #[path = "../tests/common/sheet.rs"]
 mod sheet;
 #[path = "../bindings/tazsmibor.rs"]
@@ -196,6 +205,7 @@ fn main() {
     let program = arguments.next().expect("usage: bench PROGRAM [EARLIER]");
     passes::pass(&program);
     passes::kinds(&program);
+    passes::repeated(&program);
     if let Some(earlier) = arguments.next() {
         passes::builds(&program, &earlier);
     }

@@ -1,10 +1,11 @@
 //! A pass over a sheet of 64 cells and 128 records by the program `narrow`, beside the reference in this process: of sums, also
 //! beside its 128 narrowings through the library's fast C entry, whose code the program has, and beside an earlier build; of
-//! diffs and of negs, also beside the pass of sums.
+//! diffs and of negs, also beside the pass of sums; of sums that name a cell twice, beside the pass of sums of three cells.
 //!
 //! A part of each sheet counts upward: each pass moves ends by a few floats, so a run makes all the passes that its limit
 //! allows. The time of a run of one pass is taken off, and with it the start of the program and the reading of the text.
 
+use crate::records::Record;
 use crate::{best, report, round, sheet, tazsmibor};
 use std::io::Write;
 use std::process::{Command, Stdio};
@@ -14,24 +15,26 @@ const PASSES: usize = 1_000;
 const ROUNDS: usize = 100;
 const SIGN: u64 = 1 << 63;
 
-/// A record by the cells it names.
-pub enum Record {
-    Sum([usize; 3]),
-    Diff([usize; 3]),
-    Neg([usize; 2]),
-}
-
 pub struct Sheet {
     pub cells: Vec<[u64; 2]>,
     pub records: Vec<Record>,
 }
 
+fn span(low: f64, high: f64) -> [u64; 2] {
+    [low.to_bits(), high.to_bits()]
+}
+
+fn around(middle: f64) -> [u64; 2] {
+    [middle.to_bits() - 4, middle.to_bits() + 4]
+}
+
+fn power(k: i32) -> f64 {
+    2f64.powi(k)
+}
+
 /// Four groups of 16 cells: a ring of 14 from 0 on, with the smallest float and zero; wide ones, from minus a power of two to
 /// a power of two; cell k a few floats around k + 1; and 7 positive binades, 7 negative ones, and two a few floats around 1.
 fn cells() -> Vec<[u64; 2]> {
-    let span = |low: f64, high: f64| [low.to_bits(), high.to_bits()];
-    let around = |middle: f64| [middle.to_bits() - 4, middle.to_bits() + 4];
-    let power = |k: i32| 2f64.powi(k);
     let mut cells = vec![span(0.0, 1.0); 14];
     cells.extend([[1, 1], [0, 0]]);
     cells.extend((0..16).map(|k| span(-power(60 * k - 500), power(400 - 60 * k))));
@@ -85,6 +88,32 @@ impl Sheet {
         cells[1] = [1, 1];
         let mut records = vec![Record::Sum([0, 1, 2])];
         records.extend((2..64).cycle().take(127).map(|i| Record::Neg([i, (i + 1) % 64])));
+        Sheet { cells, records }
+    }
+
+    /// x + x = b. Cell 2 is the float after cell 0, and both have the double cell 3, so a pass counts upward; each further cell is
+    /// the double of the one before. These 62 doublings move in every pass; the other 65 are the same once more and find nothing
+    /// to move.
+    fn doublings() -> Sheet {
+        let mut cells = vec![span(0.0, 1.0); 64];
+        cells[1] = [1, 1];
+        let doublings = [[2, 2, 3], [0, 0, 3]].into_iter().chain((3..63).map(|i| [i, i, i + 1]));
+        let records = [[0, 1, 2]].into_iter().chain(doublings.cycle().take(127)).map(Record::Sum).collect();
+        Sheet { cells, records }
+    }
+
+    /// x + a = x. Two sums count upward; the others are over 30 pairs of cells, x wide, a few floats around k + 1 or a binade, and
+    /// a from the least given. They move in the first pass alone.
+    fn at_rest(least: f64) -> Sheet {
+        let x = |k: i32| match k % 3 {
+            0 => span(-power(3 * k), power(2 * k + 40)),
+            1 => around((k + 1) as f64),
+            _ => span(power(k), power(k + 1)),
+        };
+        let mut cells = vec![span(0.0, 1.0), [1, 1], span(0.0, 1.0), [0, 0]];
+        cells.extend((0..30).flat_map(|k| [x(k), span(least, power(60))]));
+        let pairs = (0..30).cycle().take(126).map(|k| [4 + 2 * k, 5 + 2 * k, 4 + 2 * k]);
+        let records = [[0, 1, 2], [2, 3, 0]].into_iter().chain(pairs).map(Record::Sum).collect();
         Sheet { cells, records }
     }
 
@@ -197,6 +226,22 @@ pub fn kinds(program: &str) {
         let what = format!("a pass of 64 cells and {records}, width 64");
         report(&what, &[("library", own), ("reference", baseline)]);
         report(&what, &[("library", own), ("128 sums", of_sums)]);
+    }
+}
+
+/// Passes of sums that name a cell twice.
+pub fn repeated(program: &str) {
+    let library = |text: &str| run(program, text);
+    let sums = Sheet::sums(128);
+    for (records, sheet) in [
+        ("127 of x + x = b", Sheet::doublings()),
+        ("126 of x + a = x, zero in a", Sheet::at_rest(-power(60))),
+        ("126 of x + a = x, a above zero", Sheet::at_rest(power(-60))),
+    ] {
+        agreed(&library, &reference, &sheet);
+        let [own, of_sums] = per_pass([(&library, &sheet), (&library, &sums)]);
+        report(&format!("a pass of 64 cells and 128 sums, {records}, width 64"), &[("library", own), ("of three cells", of_sums)]);
+        report("a sum of it", &[("library", own / 128.0), ("of three cells", of_sums / 128.0)]);
     }
 }
 

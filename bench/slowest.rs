@@ -3,7 +3,8 @@
 use crate::cases;
 use crate::ends;
 use crate::floats::{Binary64, Range, Width};
-use crate::passes::{self, Record, Sheet};
+use crate::passes::{self, Sheet};
+use crate::records::Record;
 use crate::words::Words;
 use crate::{Call, best, report, round, tazsmibor};
 

@@ -24,11 +24,11 @@ pub fn top<W: Width>() -> i64 {
 }
 
 /// Half the distance from the place to the next.
-fn half_step<W: Width>(place: Place) -> Place {
+pub fn half_step<W: Width>(place: Place) -> Place {
     power::<W>((place.abs() >> W::FRACTION) - 2)
 }
 
-fn signed(words: &mut Words, place: Place) -> Place {
+pub fn signed(words: &mut Words, place: Place) -> Place {
     if words.coin() { place } else { -place }
 }
 

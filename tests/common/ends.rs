@@ -1,6 +1,6 @@
-//! Three ranges as the six patterns that the C entry takes, and back.
+//! Three ranges as the six patterns that the C entry takes, and back; and such patterns put in order.
 
-use crate::floats::{Range, Width};
+use crate::floats::{Binary32, Binary64, Range, Width};
 
 /// Low and high end of x, a and b.
 pub fn patterns<W: Width>([x, a, b]: [Range; 3]) -> [u64; 6] {
@@ -15,4 +15,14 @@ pub fn ranges<W: Width>(ends: [u64; 6]) -> Result<[Range; 3], u64> {
     }
     let ranges = [0, 2, 4].map(|i| Range { low: places[i], high: places[i + 1] });
     if ranges.iter().any(|r| r.low > r.high) { Err(3) } else { Ok(ranges) }
+}
+
+/// Puts the ends of each interval in order by place, so that more calls get past refusal 3.
+pub fn order(width: u64, ends: &mut [u64; 6]) {
+    let place = |p: u64| if width == 32 { Binary32::place(p) } else { Binary64::place(p) };
+    for pair in ends.chunks_mut(2) {
+        if place(pair[0]) > place(pair[1]) {
+            pair.swap(0, 1);
+        }
+    }
 }

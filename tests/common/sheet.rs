@@ -1,27 +1,10 @@
 //! From sheet text to its listing, written from the requirement alone: the reading, the run and the printed lines.
 
 use crate::floats::{Binary32, Binary64, Range, Width};
-use crate::narrowing::narrow;
+use crate::records::{Record, narrow_record};
 
 /// A refusal: its number and line.
 type Refusal = (u32, usize);
-
-/// A record by the cells it names: x + a = b, x + (-a) = b, y = -x.
-#[derive(Clone, Copy)]
-enum Record {
-    Sum([usize; 3]),
-    Diff([usize; 3]),
-    Neg([usize; 2]),
-}
-
-impl Record {
-    fn cells(&self) -> &[usize] {
-        match self {
-            Record::Sum(cells) | Record::Diff(cells) => cells,
-            Record::Neg(cells) => cells,
-        }
-    }
-}
 
 struct Sheet {
     width: u32,
@@ -76,14 +59,10 @@ impl Sheet {
         Ok(())
     }
 
-    /// A record of any kind: 5, 6, 10.
+    /// A record of any kind: 5, 10.
     fn add_record(&mut self, record: Record) -> Result<(), u32> {
-        let named = record.cells();
-        if named.iter().any(|c| *c >= self.cells.len()) {
+        if record.cells().iter().any(|c| *c >= self.cells.len()) {
             return Err(5);
-        }
-        if (1..named.len()).any(|i| named[..i].contains(&named[i])) {
-            return Err(6);
         }
         if self.records.len() == 128 {
             return Err(10);
@@ -135,29 +114,6 @@ enum Outcome {
     Settled(u32),
     Stopped(u32),
     NoSolution(u32, usize),
-}
-
-/// The cells of a record get the least and greatest values in its solutions; none if it has no solution.
-fn narrow_record<W: Width>(cells: &mut [Range], record: Record) -> Option<()> {
-    match record {
-        Record::Sum([x, a, b]) => {
-            let n = narrow::<W>(cells[x], cells[a], cells[b])?;
-            (cells[x], cells[a], cells[b]) = (n.x, n.a, n.b);
-        }
-        Record::Diff([x, a, b]) => {
-            let n = narrow::<W>(cells[x], cells[a].mirror(), cells[b])?;
-            (cells[x], cells[a], cells[b]) = (n.x, n.a.mirror(), n.b);
-        }
-        Record::Neg([x, y]) => {
-            let (own, other) = (cells[x], cells[y].mirror());
-            let shared = Range { low: own.low.max(other.low), high: own.high.min(other.high) };
-            if shared.low > shared.high {
-                return None;
-            }
-            (cells[x], cells[y]) = (shared, shared.mirror());
-        }
-    }
-    Some(())
 }
 
 /// The run, as the requirement writes it out.

@@ -50,7 +50,7 @@ pub fn run(calls: usize) -> usize {
         let width = arguments::width(&mut words);
         let mut ends: [u64; 6] = std::array::from_fn(|_| arguments::pattern(&mut words, width));
         if words.below(3) != 0 {
-            order(width, &mut ends);
+            ends::order(width, &mut ends);
         }
         let before: Vec<u8> = (0..words.pick(&[48, 49, 64, 47, 0, 7, 100])).map(|_| words.next() as u8).collect();
         let mut after = before.clone();
@@ -61,14 +61,4 @@ pub fn run(calls: usize) -> usize {
         }
     }
     calls
-}
-
-/// Puts the ends of each interval in order by place, so that more calls get past refusal 3.
-fn order(width: u64, ends: &mut [u64; 6]) {
-    let place = |p: u64| if width == 32 { Binary32::place(p) } else { Binary64::place(p) };
-    for pair in ends.chunks_mut(2) {
-        if place(pair[0]) > place(pair[1]) {
-            pair.swap(0, 1);
-        }
-    }
 }

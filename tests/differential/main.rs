@@ -12,6 +12,8 @@ mod ends;
 mod floats;
 #[path = "../common/narrowing.rs"]
 mod narrowing;
+#[path = "../common/ranges.rs"]
+mod ranges;
 #[path = "../../bindings/tazsmibor.rs"]
 mod tazsmibor;
 #[path = "../common/words.rs"]

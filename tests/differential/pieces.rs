@@ -5,9 +5,9 @@
 //! on these pieces. Smaller a fall short. If p is the least x, every larger a overshoots as well. Otherwise p - u and p, each
 //! with q, are neighbouring multiples of u, of which one rounds below b and one above it; and every sum is a multiple of u.
 
-use crate::brute::bisect;
 use crate::floats::{Place, Range, Width};
 use crate::narrowing::Narrowed;
+use crate::ranges::bisect;
 
 /// The piece that a place lies on, numbered in order of places, from -1 down below zero. A power of two below zero lies on the
 /// same piece as its upper neighbours, which are as far apart as those are from it.

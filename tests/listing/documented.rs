@@ -50,10 +50,10 @@ pub fn patterns() -> (usize, usize) {
     (count, wrong)
 }
 
-/// All of them: at least eight sheets and twenty-five refusals.
+/// All of them: at least eight sheets and twenty-three refusals.
 pub fn examples() -> Vec<Case> {
     let (sheets, refusals) = (sheets(), refusals());
     assert!(sheets.len() >= 8, "listing: only {} sheets in {NAME}", sheets.len());
-    assert!(refusals.len() >= 25, "listing: only {} refusals in {NAME}", refusals.len());
+    assert!(refusals.len() >= 23, "listing: only {} refusals in {NAME}", refusals.len());
     [sheets, refusals].concat()
 }

@@ -8,11 +8,18 @@ mod floats;
 mod narrowing;
 #[path = "../common/program.rs"]
 mod program;
+#[path = "../common/ranges.rs"]
+mod ranges;
+#[path = "../common/records.rs"]
+mod records;
+#[path = "../common/repeated.rs"]
+mod repeated;
 #[path = "../common/sheet.rs"]
 mod sheet;
 #[path = "../common/words.rs"]
 mod words;
 
+mod coincidences;
 mod documented;
 mod texts;
 

@@ -67,7 +67,11 @@ fn doubling<W: Width>(words: &mut Words) -> Sheet {
     let [x, same, twice] = [Range { low, high }; 3].map(|range| sheet.cell(range));
     let zero = sheet.cell(point(0));
     link(words, &mut sheet, [x, zero, same]);
-    link(words, &mut sheet, [x, same, twice]);
+    match words.below(3) {
+        0 => sheet.record("sum", &[x, x, twice]),
+        1 => sheet.record("diff", &[twice, x, x]),
+        _ => link(words, &mut sheet, [x, same, twice]),
+    }
     link(words, &mut sheet, [twice, zero, x]);
     sheet
 }
@@ -106,7 +110,7 @@ fn with_values<W: Width>(words: &mut Words) -> (Sheet, Vec<Place>) {
     let row = words.coin();
     for b in 2..words.between(4, 9) as usize {
         let x = if row { b - 1 } else { words.below(b as u64) as usize };
-        let a = (x + 1 + words.below(b as u64 - 1) as usize) % b;
+        let a = words.below(b as u64) as usize;
         let kind = words.pick(&KINDS);
         values.push(made::<W>(kind, values[x], values[a]));
         sheet.cell(if row { finite::<W>() } else { having::<W>(words, values[b]) });
@@ -162,7 +166,7 @@ fn near<W: Width>(words: &mut Words) -> Sheet {
     sheet
 }
 
-/// A sum of three cells, wide, of opposite signs or anywhere, and any records that join them with wide cells.
+/// A sum of three cells, wide, of opposite signs or anywhere, and any records that join them with wide cells, or a cell with itself.
 fn joined<W: Width>(words: &mut Words) -> Sheet {
     let placement = words.pick(&PLACEMENTS);
     let (p, q) = middles::<W>(words, placement);
@@ -175,9 +179,9 @@ fn joined<W: Width>(words: &mut Words) -> Sheet {
     let mut sheet = Sheet { cells: vec![x, a, b], records: vec![] };
     sheet.cells.extend((0..3).map(|_| wide::<W>(words)));
     sheet.record("sum", &[0, 1, 2]);
-    let mut cells: Vec<usize> = (0..sheet.cells.len()).collect();
+    let count = sheet.cells.len() as u64;
     for _ in 0..words.between(1, 3) {
-        shuffle(words, &mut cells);
+        let cells = [0; 3].map(|_| words.below(count) as usize);
         let kind = words.pick(&KINDS);
         sheet.record(kind, &cells[..if kind == "neg" { 2 } else { 3 }]);
     }

@@ -4,6 +4,9 @@ use crate::floats::{Range, Width};
 
 pub const KINDS: [&str; 3] = ["sum", "diff", "neg"];
 
+/// What a sheet may have: records of each kind, and one that names a cell twice.
+pub const PARTS: [&str; 4] = ["sum", "diff", "neg", "repeated"];
+
 #[derive(Clone)]
 pub struct Record {
     pub kind: &'static str,
@@ -33,9 +36,10 @@ impl Sheet {
         self.records.push(Record { kind, cells: cells.to_vec() });
     }
 
-    /// Whether it has a record of the kind.
-    pub fn has(&self, kind: &str) -> bool {
-        self.records.iter().any(|record| record.kind == kind)
+    /// Whether it has such a part.
+    pub fn has(&self, part: &str) -> bool {
+        let repeats = |cells: &[usize]| (1..cells.len()).any(|i| cells[..i].contains(&cells[i]));
+        self.records.iter().any(|record| record.kind == part || part == "repeated" && repeats(&record.cells))
     }
 
     pub fn text<W: Width>(&self, limit: u32) -> String {

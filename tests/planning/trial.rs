@@ -3,7 +3,7 @@
 use crate::floats::Width;
 use crate::program;
 use crate::runs::Run;
-use crate::sheets::{KINDS, Sheet};
+use crate::sheets::{PARTS, Sheet};
 use crate::words::Words;
 use std::collections::BTreeMap;
 
@@ -74,11 +74,11 @@ impl Trial {
         run
     }
 
-    /// Counts premises that held for a sheet, by the kinds of its records.
+    /// Counts premises that held for a sheet, by the parts that it has.
     pub fn held<W: Width>(&mut self, sheet: &Sheet, premises: &[Premise]) {
-        for kind in KINDS.into_iter().filter(|kind| sheet.has(kind)) {
+        for part in PARTS.into_iter().filter(|part| sheet.has(part)) {
             for premise in premises {
-                *self.counts.entry((*premise, W::BITS, kind)).or_default() += 1;
+                *self.counts.entry((*premise, W::BITS, part)).or_default() += 1;
             }
         }
     }
@@ -96,14 +96,17 @@ impl Trial {
         }
     }
 
-    /// Prints the counts; true if each premise held at both widths with each kind of record and no sentence was broken.
+    /// Prints the counts; true if each premise held at both widths with each part and no sentence was broken.
     pub fn passed(&self) -> bool {
         let mut never = 0;
         for (premise, name) in PREMISES {
             for bits in [32, 64] {
-                let [sums, diffs, negs] = KINDS.map(|kind| self.counts.get(&(premise, bits, kind)).copied().unwrap_or(0));
-                println!("width {bits}, {name}: {sums} with sums, {diffs} with diffs, {negs} with negs");
-                never += [sums, diffs, negs].iter().filter(|count| **count == 0).count();
+                let counts = PARTS.map(|part| self.counts.get(&(premise, bits, part)).copied().unwrap_or(0));
+                let [sums, diffs, negs, repeated] = counts;
+                println!(
+                    "width {bits}, {name}: {sums} with sums, {diffs} with diffs, {negs} with negs, {repeated} with repeated cells"
+                );
+                never += counts.iter().filter(|count| **count == 0).count();
             }
         }
         println!("planning: {} runs, broken sentences {:?}, {never} counts of zero", self.runs, self.broken);

@@ -20,3 +20,5 @@ pub mod Valid
 pub mod Replies
 pub mod Additions
 pub mod Widths
+pub mod Repeating
+pub mod Absorbers

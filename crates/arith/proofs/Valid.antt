@@ -1,4 +1,4 @@
--- What a crate above needs of intervals, so that it opens no definition here: when one is refused, its ordinals, its written form, its mirror, the cut of two and the narrowing of three. Rests on `ladder`'s laws of ordinals.
+-- What a crate above needs of intervals, so that it opens no definition here: when one is refused, its ordinals, its written form, its mirror, the cut of two, and the narrowing of three and of two. Rests on `ladder`'s laws of ordinals.
 use mathlib.Core.Path.{_≡_, refl, sym, ap}
 use mathlib.Core.Bool.{Bool, true, false, cond}
 use Prim.Native.Nat.{ℕ, suc, min, max, _<_, _≤_}
@@ -19,6 +19,7 @@ use Rattle.arith.specs.Refusals.{refusal, orRefuse}
 use Rattle.arith.specs.Formats.{isKnown, formatOf}
 use Rattle.arith.specs.Intervals.{Valid, endsFinite, isOrdered, rangeOf, intervalOf, mirroredEnds, canonicalIn, canonicalOf, sharedIn, cutIn, cutOf, mirrorIn, mirrorOf, span}
 use Rattle.arith.specs.Narrows.{narrowing, written, narrowAnswer, narrowOf}
+use Rattle.arith.specs.Repeats.{Relation, pairAnswer, pairIn, pairOf}
 use Rattle.arith.proofs.Intervals.{range-ends, mirrored-ends}
 use Rattle.arith.proofs.Callers.{narrow-valid, written-finite}
 
@@ -119,3 +120,10 @@ pub valid-narrow :
     (width : ℕ) (x a b : Interval) → Valid width x → Valid width a → Valid width b →
     narrowOf width x a b ≡ narrowAnswer (formatOf width) (narrowing (formatOf width) (rangeOf (formatOf width) x) (rangeOf (formatOf width) a) (rangeOf (formatOf width) b))
 valid-narrow width x a b u v w = narrow-valid width x a b (u .known) (u .finite) (v .finite) (w .finite) (u .ordered) (v .ordered) (w .ordered)
+
+-- ---- the narrowing of two, by either relation
+pub valid-pair :
+    (by : Relation) (width : ℕ) (i j : Interval) → Valid width i → Valid width j →
+    pairOf by width i j ≡ pairAnswer (formatOf width) (by (formatOf width) (rangeOf (formatOf width) i) (rangeOf (formatOf width) j))
+unfolding pairOf pairIn
+valid-pair by width i j u v = simp (u .known, u .finite, v .finite, u .ordered, v .ordered)

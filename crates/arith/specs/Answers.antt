@@ -11,6 +11,8 @@ use Rattle.arith.specs.declared.interval.Image.{Image}
 use Rattle.arith.specs.declared.interval.Image.the-variants as Image
 use Rattle.arith.specs.declared.narrow.Narrowed.{Narrowed}
 use Rattle.arith.specs.declared.narrow.Narrowed.the-variants as Narrowed
+use Rattle.arith.specs.declared.repeated.Paired.{Paired}
+use Rattle.arith.specs.declared.repeated.Paired.the-variants as Paired
 
 -- ---- a reply
 -- 01's number, 0 where nothing is refused; the place; the values, none with a refusal
@@ -52,3 +54,8 @@ imageTold (Image.Refused r) = refuses r
 abbrev pub narrowedTold : Narrowed → Reply ℕ
 narrowedTold (Narrowed.Ends x a b) = gives (twoEnds x ++ twoEnds a ++ twoEnds b)
 narrowedTold (Narrowed.Refused r) = refuses r
+
+-- that of a sum with one float in two places: the four ends, of the first and the second
+abbrev pub pairedTold : Paired → Reply ℕ
+pairedTold (Paired.Ends p q) = gives (twoEnds p ++ twoEnds q)
+pairedTold (Paired.Refused r) = refuses r

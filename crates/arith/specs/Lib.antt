@@ -7,6 +7,8 @@ pub mod Intervals
 pub mod Thresholds
 pub mod Searches
 pub mod Narrows
+pub mod Repeats
+pub mod PairSearches
 pub mod Answers
 pub mod Replies
 pub mod Additions

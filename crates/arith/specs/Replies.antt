@@ -3,6 +3,8 @@ use mathlib.Core.Bool.{Bool, true, false, cond}
 use mathlib.Core.List.{List, [], _∷_, _++_}
 use Prim.Native.Nat.{ℕ}
 use Rattle.ladder.specs.Narrowing.{Narrowing, none, ends}
+use Rattle.ladder.specs.Pairing as P
+use Rattle.ladder.specs.Pairing.{Pairing}
 use Rattle.arith.specs.declared.refusal.Refusal.{Refusal}
 use Rattle.arith.specs.declared.range.Range.{Range}
 use Rattle.arith.specs.declared.interval.Interval.{Interval}
@@ -11,6 +13,7 @@ use Rattle.arith.specs.Formats.{isKnown, formatOf, isFinite, ordinal, pa
 use Rattle.arith.specs.Sums.{isFiniteOrdinal, markOf}
 use Rattle.arith.specs.Intervals.{endsFinite, rangeOf, intervalOf, isOrdered, common, translated, reflected}
 use Rattle.arith.specs.Narrows.{narrowing, written}
+use Rattle.arith.specs.Repeats.{Relation}
 use Rattle.arith.specs.Answers.{Reply, gives, refuses, twoEnds}
 
 -- ---- tests
@@ -51,6 +54,11 @@ finiteSum width s = (isFiniteOrdinal (formatOf width) s, refusal 9)
 abbrev pub solved : Narrowing → Test
 solved none = (false, refusal 11)
 solved (ends X A B) = (true, refusal 11)
+
+-- 11: a pair
+abbrev pub paired : Pairing → Test
+paired P.none = (false, refusal 11)
+paired (P.ends X A) = (true, refusal 11)
 
 -- ---- the forward sum
 -- x ⊕ a, by its ordinal
@@ -129,3 +137,29 @@ sixPatterns width (ends X A B) = let F = formatOf width in twoEnds (written F X)
 -- the least and the greatest x, a and b
 abbrev pub narrowValues : ℕ → Interval → Interval → Interval → List ℕ
 narrowValues width x a b = sixPatterns width (inTriples width x a b)
+
+-- ---- a sum with one float in two places
+-- the least and greatest values standing in a pair, by their ordinals
+abbrev pub inPairs : Relation → ℕ → Interval → Interval → Pairing
+inPairs by width i j = by (formatOf width) (ordinals width i) (ordinals width j)
+
+-- 1; 2 for the first, low then high, and the second; 3 for the first, the second
+abbrev pub givenPair : ℕ → Interval → Interval → List Test
+givenPair width i j = known width ∷ bothFinite width i ∷ bothFinite width j ∷ ordered width i ∷ ordered width j ∷ []
+
+-- the same; 11
+abbrev pub pairTests : Relation → ℕ → Interval → Interval → List Test
+pairTests by width i j = givenPair width i j ++ paired (inPairs by width i j) ∷ []
+
+-- four ends, each in its one pattern
+abbrev pub fourPatterns : ℕ → Pairing → List ℕ
+fourPatterns width P.none = []
+fourPatterns width (P.ends X A) = let F = formatOf width in twoEnds (written F X) ++ twoEnds (written F A)
+
+-- the least and the greatest of both
+abbrev pub pairValues : Relation → ℕ → Interval → Interval → List ℕ
+pairValues by width i j = fourPatterns width (inPairs by width i j)
+
+-- the reply due
+abbrev pub pairReply : Relation → ℕ → Interval → Interval → Reply ℕ
+pairReply by width i j = replyAfter (pairTests by width i j) (pairValues by width i j)

@@ -42,7 +42,7 @@ fn take_away(t: Exact, kept: Scaled) -> u64
 }
 
 // The m of n * 2^shift units, where n has no more digits than a significand: the way back from `decode` of `sum`.
-fn encode(fraction: u64, n: u64, shift: u64) -> u64
+pub(crate) fn encode(fraction: u64, n: u64, shift: u64) -> u64
     requires { ⌜ Encodable fraction n shift ⌝ }
     ensures { λ m. ⌜ magnitude fraction m ≡ n * 2 ^ shift ⌝ }
 {

@@ -88,7 +88,7 @@ pub enum Sum {
 
 // The value of m taken apart. The field above the fraction is the biased exponent; where it is 0 the float is subnormal, else
 // m - (field - 1) * 2^fraction is the fraction with its hidden digit.
-fn decode(fraction: u64, m: u64) -> Scaled
+pub(crate) fn decode(fraction: u64, m: u64) -> Scaled
     requires { ⌜ fraction ≤ 52 ⌝ }
     ensures { λ r. ⌜ r ≡ partsOf fraction m ⌝ }
 {

@@ -14,7 +14,7 @@ use Rattle.arith.specs.Intervals.{endsFinite, isOrdered, canonicalIn, canonical
 use Rattle.sheet.specs.declared.kept.Record.{Record}
 use Rattle.propagation.specs.declared.passes.Outcome.the-variants.{NoTriple, Stopped}
 use Rattle.propagation.specs.declared.narrowing.Run.{Run}
-use Rattle.sheet.specs.Faults.{headFault, cellFault, tripleFault, recordFault}
+use Rattle.sheet.specs.Faults.{headFault, cellFault, namedFault, recordFault}
 use Rattle.sheet.specs.Sheets.{tidied, firstFault, testLists}
 use Rattle.sheet.specs.Records.{fits}
 use Rattle.sheet.specs.Boxes.{Box}
@@ -31,7 +31,7 @@ use Rattle.examples.proofs.Narrowings.{dX, dA, dB, dX', dA', one, docum
 two-sums :
     (_≡_ {A = Run} (narrowSheetOf (twoSums 5 twoSumsCells)) (record { sheet = twoSums 5 (point 5 ∷ point 1 ∷ point 5 ∷ point 0 ∷ []); outcome = Stopped 5 }))
     × (_≡_ {A = Run} (narrowSheetOf (twoSums 6 twoSumsCells)) (record { sheet = twoSums 6 twoSumsCells; outcome = NoTriple 6 0 }))
-unfolding narrowSheetOf testLists firstFault headFault cellFault recordFault tripleFault canonicalOf canonicalIn endsFinite isOrdered tidied runFrom passFrom step stepFrom standing solvable someValues sameBox fits extentFrom anyFrom sum rounded round excess magnitude size sign infinity ordinal pattern
+unfolding narrowSheetOf testLists firstFault headFault cellFault recordFault namedFault canonicalOf canonicalIn endsFinite isOrdered tidied runFrom passFrom step stepFrom standing solvable someValues sameBox fits extentFrom anyFrom sum rounded round excess magnitude size sign infinity ordinal pattern
 two-sums = (refl, refl)
 
 -- ---- document 000's sheet
@@ -69,7 +69,7 @@ run-settles = settled-exactly (fits 52 11) records 10 first (omega arith) 2 last
 
 -- ---- the table
 pub sheets : Sheets
-unfolding narrowSheetOf testLists firstFault headFault cellFault recordFault tripleFault canonicalOf canonicalIn endsFinite isOrdered tidied ordinal pattern sign infinity
+unfolding narrowSheetOf testLists firstFault headFault cellFault recordFault namedFault canonicalOf canonicalIn endsFinite isOrdered tidied ordinal pattern sign infinity
 sheets = record {
   settles = ap (ranOn (sheet000 (interval 0xC630000000000000 0xC330000000000000 ∷ interval 0x3FF0000000000000 0x4630000000000000 ∷ interval 0x3FE0000000000000 0x3FF8000000000000 ∷ []))) run-settles;
   stops = two-sums .0;

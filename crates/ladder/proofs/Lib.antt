@@ -37,3 +37,11 @@ pub mod Assembly
 pub mod Trimming
 pub mod Exactness
 pub mod Remainder
+pub mod Reflection
+pub mod Pairing
+pub mod Differences
+pub mod Doubling
+pub mod Halves
+pub mod Absorbing
+pub mod Absorption
+pub mod Alike

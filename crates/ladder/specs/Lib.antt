@@ -8,3 +8,6 @@ pub mod Values
 pub mod Solution
 pub mod Narrowing
 pub mod Search
+pub mod Pairing
+pub mod Halves
+pub mod Absorption

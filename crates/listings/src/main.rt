@@ -1,4 +1,4 @@
-// Prints the listings of 01's other sheets, of sheets with records of each kind and of a text for each refusal, then what the reader gives of some texts, all held to the stored output. Thin over the crates `listing` and `reader`.
+// Prints the listings of 01's other sheets, of sheets with records of each kind, with a cell named more than once, and of a text for each refusal, then what the reader gives of some texts, all held to the stored output. Thin over the crates `listing` and `reader`.
 mod records;
 
 use libc::STDOUT_FILENO;
@@ -77,6 +77,31 @@ fn kinds() {
     show_many(b"sheet\t32\t6\n", at_odds, 1);
 }
 
+// A cell named more than once. A stage at rest: what 1 absorbs from zero up, and its odd neighbour; where an a from 1 to 4 is absorbed. The doubling test from place 3 to the largest float, and one without a solution. A cell less itself; a cell less its half; all places alike, for each kind.
+fn repeated() {
+    let rest = b"cell\t0000000000000000\t3FF0000000000000\nsum\t0\t1\t0\n";
+    show_many(
+        b"sheet\t64\t10\ncell\t3FF0000000000000\t3FF0000000000000\n",
+        rest,
+        1,
+    );
+    show_many(
+        b"sheet\t64\t10\ncell\t3FF0000000000001\t3FF0000000000001\n",
+        rest,
+        1,
+    );
+    show(
+        b"sheet\t64\t10\ncell\tBFF0000000000000\t4340000000000003\ncell\t3FF0000000000000\t4010000000000000\nsum\t0\t1\t0\n",
+    );
+    show(b"sheet\t32\t10\ncell\t00000000\t7F7FFFFF\ncell\t00000003\t7F7FFFFF\nsum\t0\t0\t1\n");
+    show(b"sheet\t32\t10\ncell\t00000001\t00000001\ncell\t00000003\t00000003\nsum\t0\t0\t1\n");
+    show(b"sheet\t32\t10\ncell\t3F800000\t40000000\ncell\tBF800000\t3F800000\ndiff\t0\t0\t1\n");
+    show(b"sheet\t32\t10\ncell\t3F800000\t40800000\ncell\t00000000\t3FC00000\ndiff\t0\t1\t1\n");
+    show(
+        b"sheet\t32\t10\ncell\tBF800000\t3F800000\ncell\tBF800000\t3F800000\ncell\tBF800000\t3F800000\nsum\t0\t0\t0\ndiff\t1\t1\t1\nneg\t2\t2\n",
+    );
+}
+
 // Refusal 4: no head, no line feed, an unknown or misplaced record, fields too few, too many or malformed.
 fn malformed() {
     show(b"");
@@ -96,7 +121,7 @@ fn malformed() {
     show(b"sheet\t64\t10\nneg\t0\t1\t0\n");
 }
 
-// Refusals 1, 7, 2, 3, 5 and 6, these two for each kind of record; the first bad line of several, and 4 before what else a line has.
+// Refusals 1, 7, 2, 3 and 5, this for each kind of record; the first bad line of several, and 4 before what else a line has.
 fn refused() {
     show(b"sheet\t16\t10\n");
     show(b"sheet\t16\t0\n");
@@ -106,12 +131,9 @@ fn refused() {
     show(b"sheet\t32\t10\ncell\t00000000\tFF800000\n");
     show(b"sheet\t64\t10\ncell\t3FF0000000000000\t0000000000000000\n");
     show(b"sheet\t64\t10\ncell\t0000000000000000\t0000000000000000\nsum\t0\t1\t2\n");
-    show(b"sheet\t32\t10\ncell\t00000000\t00000000\ncell\t00000000\t00000000\nsum\t0\t0\t1\n");
     let one = b"sheet\t32\t10\ncell\t00000000\t00000000\n";
     show_many(one, b"diff\t0\t0\t1\n", 1);
     show_many(one, b"neg\t0\t1\n", 1);
-    show_many(one, b"neg\t0\t0\n", 1);
-    show(b"sheet\t32\t10\ncell\t00000000\t00000000\ncell\t00000000\t00000000\ndiff\t0\t1\t1\n");
     show(b"sheet\t64\t10\nsum\t0\t0\t0\ncell\t0\t0\n");
     show(b"sheet\t16\t010\n");
 }
@@ -134,6 +156,7 @@ fn large() {
 fn main() {
     sheets();
     kinds();
+    repeated();
     malformed();
     refused();
     large();

@@ -79,11 +79,11 @@ fn show_records(text: &[u8], n: u16) {
     }
 }
 
-// A text with a record of each kind to its end, and the end again; a refused record, stayed at; a last line without its line feed; no head; empty text; text too long.
+// A text with a record of each kind, and one whose places are all alike, to its end, and the end again; a refused record, stayed at; a last line without its line feed; no head; empty text; text too long.
 pub(crate) fn read_records() {
     show_records(
-        b"sheet\t32\t10\ncell\t3F800000\t40000000\ncell\t00000000\t00000001\ncell\t80000000\t7F7FFFFF\nsum\t0\t1\t2\ndiff\t2\t1\t0\nneg\t1\t2\n",
-        9,
+        b"sheet\t32\t10\ncell\t3F800000\t40000000\ncell\t00000000\t00000001\ncell\t80000000\t7F7FFFFF\nsum\t0\t1\t2\ndiff\t2\t1\t0\nneg\t1\t2\nsum\t0\t0\t0\n",
+        10,
     );
     show_records(
         b"sheet\t64\t10\ncell\t0000000000000000\t0000000000000001\nrow\t0\t1\nsum\t0\t1\t2\n",

@@ -3,13 +3,13 @@ use mathlib.Core.Path.{_≡_, refl, sym, ap, subst, _∙_}
 use mathlib.Core.Logic.{_≢_}
 use mathlib.Core.Bool.{cond}
 use mathlib.Core.List.{List, [], _∷_}
-use Prim.Native.Nat.{ℕ, _*_, _<_, _≤_}
+use Prim.Native.Nat.{ℕ, _<_, _≤_}
 use native.Mathlib.Omega.{arith}
 use lib.Dec.{eqb}
 use lib.ListN.{length, set, length-set}
 use lib.Seq.{getD-set-same, getD-set-other}
 use borrow.Author.Tests.{eq-eqb, ne-eqb, eqb-true}
-use Rattle.ladder.specs.Ordinal.{sign, mirrored}
+use Rattle.ladder.specs.Ordinal.{mirrored}
 use Rattle.ladder.specs.Sum as Sum
 use Rattle.ladder.specs.Solution as L
 use Rattle.ladder.specs.Solution.{Interval, In, Bounded}
@@ -17,7 +17,8 @@ use Rattle.ladder.specs.Narrowing.{Narrowing, none, ends, narrowing, HasA, Span
 use Rattle.ladder.specs.Search.{reflection}
 use Rattle.ladder.proofs.Hull.{narrowing-none, narrowing-hull, same-spans}
 use Rattle.ladder.proofs.Ordinals.{finite-twice}
-use Rattle.ladder.proofs.Solutions.{in-reflection, in-reflected, finite-in, mirror-bounded}
+use Rattle.ladder.proofs.Solutions.{in-reflection, in-reflected}
+use Rattle.ladder.proofs.Reflection.{in-twice, mirror-twice, mirror-spans}
 use Rattle.arith.proofs.Valid.{shared}
 use Rattle.sheet.specs.declared.kept.Record.{Record}
 use Rattle.sheet.specs.Members.{Each}
@@ -25,6 +26,7 @@ use Rattle.sheet.specs.Records.{Kind, sum, diff, neg, kindOf, namedBy, named, V
 use Rattle.sheet.specs.Boxes.{Box, at}
 use Rattle.propagation.specs.Runs.{Step, unsolved, left, step}
 use Rattle.propagation.specs.Consistency.{Solution, Has}
+use Rattle.propagation.proofs.Boxes.{set-cases}
 use Rattle.propagation.proofs.Fitting.{fits-local, fits-as}
 use Rattle.propagation.proofs.Stepping.{Left, step-unique}
 
@@ -45,6 +47,36 @@ module _ (x a b u v w : ℕ) where
   unfolding three
   at-b n m = rw (ne-eqb b x n, ne-eqb b a m)
 
+-- ---- the cells of a record set in the code's order: b, a, x
+abbrev pub put : {I : Type 0} → List I → Record → I → I → I → List I
+put c r x a b = set (set (set c (r .b) b) (r .a) a) (r .x) x
+
+-- places with one cell get one interval
+pub record Agree (r : Record) (X A B : Interval) : Type 0 where
+  pub a-x : r .a ≡ r .x → A ≡ X
+  pub b-x : r .b ≡ r .x → B ≡ X
+  pub b-a : r .b ≡ r .a → B ≡ A
+
+module _ (c : Box) (r : Record) where
+  pub put-x : r .x < length c → (X A B : Interval) → at (put c r X A B) (r .x) ≡ X
+  put-x l X A B = getD-set-same (set (set c (r .b) B) (r .a) A) (r .x) X _ (simp length-set l)
+
+  pub put-a : r .a < length c → (X A B : Interval) → Agree r X A B → at (put c r X A B) (r .a) ≡ A
+  put-a l X A B g =
+      set-cases (λ I. I ≡ A) (set (set c (r .b) B) (r .a) A) (r .x) (r .a) X
+      (getD-set-same (set c (r .b) B) (r .a) A _ (simp length-set l)) (λ e. sym (g .a-x e))
+
+  pub put-b : r .b < length c → (X A B : Interval) → Agree r X A B → at (put c r X A B) (r .b) ≡ B
+  put-b l X A B g =
+      set-cases (λ I. I ≡ B) (set (set c (r .b) B) (r .a) A) (r .x) (r .b) X
+      (set-cases (λ I. I ≡ B) (set c (r .b) B) (r .a) (r .b) A (getD-set-same c (r .b) B _ l) (λ e. sym (g .b-a e))) (λ e. sym (g .b-x e))
+
+  pub put-other : (X A B : Interval) (j : ℕ) → j ≢ r .x → j ≢ r .a → j ≢ r .b → at (put c r X A B) j ≡ at c j
+  put-other X A B j p q s =
+      getD-set-other (set (set c (r .b) B) (r .a) A) (r .x) j X _ p
+      ∙ getD-set-other (set c (r .b) B) (r .a) j A _ q
+      ∙ getD-set-other c (r .b) j B _ s
+
 -- ---- a record over three different cells of the box
 pub record Three (c : Box) (r : Record) : Type 0 where
   pub x-in : r .x < length c
@@ -54,30 +86,8 @@ pub record Three (c : Box) (r : Record) : Type 0 where
   pub b-x : r .b ≢ r .x
   pub b-a : r .b ≢ r .a
 
--- its cells set in the code's order: b, a, x
-abbrev pub put : {I : Type 0} → List I → Record → I → I → I → List I
-put c r x a b = set (set (set c (r .b) b) (r .a) a) (r .x) x
-
-module _ (c : Box) (r : Record) (t : Three c r) (X A B : Interval) where
-  put-x : at (put c r X A B) (r .x) ≡ X
-  put-x = getD-set-same (set (set c (r .b) B) (r .a) A) (r .x) X _ (simp length-set (t .x-in))
-
-  put-a : at (put c r X A B) (r .a) ≡ A
-  put-a =
-      getD-set-other (set (set c (r .b) B) (r .a) A) (r .x) (r .a) X _ (t .a-x)
-      ∙ getD-set-same (set c (r .b) B) (r .a) A _ (simp length-set (t .a-in))
-
-  put-b : at (put c r X A B) (r .b) ≡ B
-  put-b =
-      getD-set-other (set (set c (r .b) B) (r .a) A) (r .x) (r .b) X _ (t .b-x)
-      ∙ getD-set-other (set c (r .b) B) (r .a) (r .b) A _ (t .b-a)
-      ∙ getD-set-same c (r .b) B _ (t .b-in)
-
-  put-other : (j : ℕ) → j ≢ r .x → j ≢ r .a → j ≢ r .b → at (put c r X A B) j ≡ at c j
-  put-other j p q s =
-      getD-set-other (set (set c (r .b) B) (r .a) A) (r .x) j X _ p
-      ∙ getD-set-other (set c (r .b) B) (r .a) j A _ q
-      ∙ getD-set-other c (r .b) j B _ s
+three-agree : (c : Box) (r : Record) → Three c r → (X A B : Interval) → Agree r X A B
+three-agree c r t X A B = record { a-x = λ e. absurd (t .a-x e); b-x = λ e. absurd (t .b-x e); b-a = λ e. absurd (t .b-a e) }
 
 -- the step that a narrowing tells, with h for the second interval
 abbrev pub stepOf : Box → Record → (Interval → Interval) → Narrowing → Step
@@ -155,11 +165,11 @@ module _ (f e : ℕ) (c : Box) (r : Record) (t : Three c r) (A : Interval) (g : 
         B' (hull .bs)
 
     leaves : Left (fits f e) c r (put c r X' (h A') B')
-    leaves = record {
+    leaves = let g = three-agree c r t X' (h A') B' in record {
       cells = simp length-set;
       spans = subst (Each (λ i. Spans (Has (fits f e) c r i) (at (put c r X' (h A') B') i))) (sym naming)
-          (rw (put-x c r t X' (h A') B') spans-x, (rw (put-a c r t X' (h A') B') spans-a, (rw (put-b c r t X' (h A') B') spans-b, tt)));
-      others = λ j n. let m = subst (Each (λ i. j ≢ i)) naming n in put-other c r t X' (h A') B' j (m .0) (m .1 .0) (m .1 .1 .0);
+          (rw (put-x c r (t .x-in) X' (h A') B') spans-x, (rw (put-a c r (t .a-in) X' (h A') B' g) spans-a, (rw (put-b c r (t .b-in) X' (h A') B' g) spans-b, tt)));
+      others = λ j n. let m = subst (Each (λ i. j ≢ i)) naming n in put-other c r X' (h A') B' j (m .0) (m .1 .0) (m .1 .1 .0);
     }
 
   names : Each (λ i. i < length c) (named r)
@@ -179,31 +189,6 @@ module _ (f e : ℕ) (c : Box) (r : Record) (k : kindOf (r .kind) ≡ sum) (t : 
   pub sum-step : (t : Narrowing) → narrowing f e (at c (r .x)) (at c (r .a)) (at c (r .b)) ≡ t → step (fits f e) c r ≡ stepOf c r (λ I. I) t
   sum-step =
       triple-step f e c r t (at c (r .a)) (λ y. y) (λ I. I) (ap (λ (l : Kind). namedBy l r) k) (fits-as f e r sum k) (λ y i. i) (λ y i. i) (λ y i. refl) same-back
-
--- ---- an interval of finite numbers and its mirror
-module _ (f e : ℕ) (I : Interval) (bounded : Bounded f e I) where
-  small : (y : ℕ) → In I y → y ≤ 2 * sign f e
-  small y i = finite-twice f e y (finite-in f e I bounded y i)
-
-  small-mirror : (y : ℕ) → In (reflection f e I) y → y ≤ 2 * sign f e
-  small-mirror y i = finite-twice f e y (finite-in f e (reflection f e I) (mirror-bounded f e I bounded) y i)
-
-  mirror-twice : (y : ℕ) → In (reflection f e I) y → mirrored f e (mirrored f e y) ≡ y
-  mirror-twice y i = omega (arith, small-mirror y i)
-
-  -- from the least to the greatest number with a property, mirrored
-  mirror-spans : (P : ℕ → Type 0) → ((y : ℕ) → P y → In (reflection f e I) y) → (J : Interval) → Spans P J → Spans (λ y. In I y × P (mirrored f e y)) (reflection f e J)
-  mirror-spans P inside J s = record {
-    low = mirrored-has (J .high) (s .high);
-    high = mirrored-has (J .low) (s .low);
-    all = λ y p.
-        let q = s .all (mirrored f e y) (p .1) in
-        let m = small y (p .0) in
-        record { low = omega (arith, q .high, m); high = omega (arith, q .low, m) };
-  }
-    where
-      mirrored-has : (y : ℕ) → P y → In I (mirrored f e y) × P (mirrored f e (mirrored f e y))
-      mirrored-has y p = (in-reflected f e I bounded y (inside y p), subst P (sym (mirror-twice y (inside y p))) p)
 
 -- ---- a diff: the sum with the mirror of a's interval
 module _ (f e : ℕ) (c : Box) (r : Record) (k : kindOf (r .kind) ≡ diff) (t : Three c r) (bounded : Bounded f e (at c (r .a))) where
@@ -244,8 +229,8 @@ module _ (f e : ℕ) (c : Box) (r : Record) (k : kindOf (r .kind) ≡ neg) (t : 
   opposed-to v s =
       let i = subst (Each (λ j. In (at c j) (v j))) naming (s .inside) in
       let z : v (r .a) ≡ mirrored f e (v (r .x)) = eqb-true _ _ (sym (fits-as f e r neg k v) ∙ s .fits) in
-      let m = small f e (at c (r .x)) x-bounded (v (r .x)) (i .0) in
-      let n = small f e (at c (r .a)) a-bounded (v (r .a)) (i .1 .0) in
+      let m = in-twice f e (at c (r .x)) x-bounded (v (r .x)) (i .0) in
+      let n = in-twice f e (at c (r .a)) a-bounded (v (r .a)) (i .1 .0) in
       record {
         shared = record { low = omega (arith, i .0 .low, i .1 .0 .high, z, m, n); high = omega (arith, i .0 .high, i .1 .0 .low, z, m, n) };
         is = z;

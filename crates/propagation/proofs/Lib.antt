@@ -3,6 +3,7 @@ pub mod Searching
 pub mod Stepping
 pub mod Fitting
 pub mod KindSteps
+pub mod PairSteps
 pub mod Boxes
 pub mod Demand
 pub mod Runs
@@ -12,6 +13,8 @@ pub mod Unnamed
 pub mod Comparing
 pub mod Places
 pub mod Mirroring
+pub mod Settings
+pub mod RepeatSteps
 pub mod Steps
 pub mod Started
 pub mod Finishing

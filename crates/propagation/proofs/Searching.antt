@@ -22,10 +22,10 @@ use Rattle.sheet.proofs.Members.{each-member, each-map}
 use Rattle.propagation.proofs.Boxes.{set-cases}
 
 -- ---- tests
-true-holds : (b : Bool) → b ≡ true → T b
+pub true-holds : (b : Bool) → b ≡ true → T b
 true-holds b e = subst T (sym e) tt
 
-holds-true : (b : Bool) → T b → b ≡ true
+pub holds-true : (b : Bool) → T b → b ≡ true
 holds-true true h = refl
 holds-true false h = absurd h
 

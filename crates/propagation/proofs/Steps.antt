@@ -1,13 +1,15 @@
 -- A step and a comparison on cells are those on the boxes that they stand for. Assumes nothing.
 use mathlib.Core.Path.{_≡_, refl, sym, ap, subst, _∙_}
+use mathlib.Core.Logic.{_≢_}
 use mathlib.Core.Bool.{Bool, true, false, cond}
-use mathlib.Core.List.{List, [], _∷_}
-use Prim.Native.Nat.{ℕ, _<_, _≤_}
+use mathlib.Core.List.{List}
+use Prim.Native.Nat.{ℕ, _≤_}
 use native.Mathlib.Omega.{arith}
-use lib.Dec.{leb}
-use lib.ListN.{length, getD, take, set, length-set}
+use native.Mathlib.Decide.{ℕ-discrete}
+use lib.Dec.{leb, ltb, eqb}
+use lib.ListN.{getD, take, set}
 use lib.Seq.{set-getD}
-use borrow.Author.Tests.{leb-true, leb-false}
+use borrow.Author.Tests.{leb-true, leb-false, eq-eqb, ne-eqb}
 use Rattle.ladder.specs.Solution as L
 use Rattle.ladder.specs.Search.{reflection}
 use Rattle.ladder.specs.Narrowing.{Narrowing, none, ends, narrowing}
@@ -22,209 +24,170 @@ use Rattle.arith.specs.declared.narrow.Narrowed.the-variants.{Ends, Refused}
 use Rattle.arith.specs.Formats.{isKnown, formatOf}
 use Rattle.arith.specs.Intervals.{mirroredEnds, cutOf}
 use Rattle.arith.specs.Narrows.{narrowAnswer, narrowOf}
-use Rattle.arith.proofs.Valid.{written-span, written-valid, shared, valid-narrow}
+use Rattle.arith.proofs.Valid.{written-span, shared, valid-narrow}
 use Rattle.sheet.specs.declared.kept.Record.{Record}
-use Rattle.sheet.specs.Records.{sum, diff, neg, kindOf, Distinct, Names}
+use Rattle.sheet.specs.Records.{sum, diff, neg, kindOf, Names}
 use Rattle.sheet.specs.Cells.{fractionOf, exponentOf, rulesOf, patternsOf, boxOf}
 use Rattle.sheet.specs.Sheets.{noCell, places}
-use Rattle.sheet.specs.Boxes.{Box, at, Proper, IsBox}
+use Rattle.sheet.specs.Boxes.{Proper}
+use Rattle.propagation.specs.declared.step.Cells.{Cells}
+use Rattle.propagation.specs.declared.step.Cells.the-variants.{Apart, Repeated}
 use Rattle.propagation.specs.Runs.{unsolved, left, step, sameBox}
-use Rattle.propagation.specs.RecordSteps.{turnSecond, pairBy, negAnswer, recordAnswer}
+use Rattle.propagation.specs.RecordSteps.{turnSecond, mirrorBy, mirrorAnswer, negAnswer, answerBy, cellsOf, recordAnswer}
 use Rattle.propagation.specs.Loops.{boxIn, Shows, Compares}
 use Rattle.propagation.proofs.Boxes.{equal-same, unequal-same}
 use Rattle.propagation.proofs.Shrinking.{shrunk-box, step-shrunk}
 use Rattle.propagation.proofs.Mirroring.{mirror-proper, mirror-written, cut-written}
 use Rattle.propagation.proofs.KindSteps.{Three, put, sum-step, diff-step, Two, neg-solved, neg-unsolved}
-use Rattle.propagation.proofs.Places.{bounded, place-at, place-set, box-found, places-show}
-use Rattle.sheet.proofs.Records.{Kinded, a-sum, a-diff, a-neg, kinded, to-kind, first-in, second-in, third-in}
+use Rattle.propagation.proofs.Places.{bounded, box-found, places-show}
+use Rattle.propagation.proofs.Settings.{Setting, f, e, X, A, B, x-proper, a-proper, b-proper, in-box, cells, x-cell, a-cell, b-cell, x-is, a-is, b-is, valid, MadeBy, pair-places, put-places}
+use Rattle.propagation.proofs.RepeatSteps.{CellsAre, apart, twice, cells-are, sum-repeated, diff-repeated, neg-repeated}
+use Rattle.sheet.proofs.Records.{Kinded, a-sum, a-diff, a-neg, kinded, first-in, second-in, third-in}
 
--- ---- a step on a box in its places
-module _ (width n : ℕ) (known : isKnown width ≡ true) (r : Record) (names : Names n r) (box : Box) (is : IsBox (fractionOf width) (exponentOf width) n box) where
-  abbrev f : ℕ
-  f = fractionOf width
-
-  abbrev e : ℕ
-  e = exponentOf width
-
-  abbrev X : L.Interval
-  X = at box (r .x)
-
-  abbrev A : L.Interval
-  A = at box (r .a)
-
-  abbrev B : L.Interval
-  B = at box (r .b)
-
-  x-proper : Proper f e X
-  x-proper = is .proper (r .x) (first-in n r names)
-
-  a-proper : Proper f e A
-  a-proper = is .proper (r .a) (second-in n r names)
-
-  b-proper : Proper f e B
-  b-proper = is .proper (r .b) (third-in n r names)
-
-  -- the three cells in their places
-  abbrev x-cell : Interval
-  x-cell = getD (places width n box) (r .x) noCell
-
-  abbrev a-cell : Interval
-  a-cell = getD (places width n box) (r .a) noCell
-
-  abbrev b-cell : Interval
-  b-cell = getD (places width n box) (r .b) noCell
-
-  x-is : x-cell ≡ patternsOf width X
-  x-is = place-at width n box (is .cells) (r .x) (first-in n r names)
-
-  a-is : a-cell ≡ patternsOf width A
-  a-is = place-at width n box (is .cells) (r .a) (second-in n r names)
-
-  b-is : b-cell ≡ patternsOf width B
-  b-is = place-at width n box (is .cells) (r .b) (third-in n r names)
-
-  in-box : {i : ℕ} → i < n → i < length box
-  in-box {i} l = subst (λ (m : ℕ). i < m) (sym (is .cells)) l
-
-  -- what a record's answer makes of the box
-  abbrev MadeBy : Narrowed → Type 0
-  MadeBy (Refused q) = step (rulesOf width) box r ≡ unsolved
-  MadeBy (Ends p q s) = (new : Box) × (step (rulesOf width) box r ≡ left new) × (put (places width n box) r p q s ≡ places width n new)
-
-  -- cells put into their places: a and x, and three
-  pair-places :
-      (c : Box) → length c ≡ n → (X' A' : L.Interval) →
-      set (set (places width n c) (r .a) (patternsOf width A')) (r .x) (patternsOf width X') ≡ places width n (set (set c (r .a) A') (r .x) X')
-  pair-places c l X' A' =
-      ap (λ (p : List Interval). set p (r .x) (patternsOf width X')) (place-set width n c l (r .a) A' (second-in n r names))
-      ∙ place-set width n (set c (r .a) A') (simp length-set l) (r .x) X' (first-in n r names)
-
-  put-places : (X' A' B' : L.Interval) → put (places width n box) r (patternsOf width X') (patternsOf width A') (patternsOf width B') ≡ places width n (put box r X' A' B')
-  put-places X' A' B' =
-      ap (λ (l : List Interval). set (set l (r .a) (patternsOf width A')) (r .x) (patternsOf width X')) (place-set width n box (is .cells) (r .b) B' (third-in n r names))
-      ∙ pair-places (set box (r .b) B') (simp length-set (is .cells)) X' A'
-
+module _ (g : Setting) where
   -- the narrowing of intervals in patterns
   narrowed-is :
-      (I J K : L.Interval) → Proper f e I → Proper f e J → Proper f e K →
-      narrowOf width (patternsOf width I) (patternsOf width J) (patternsOf width K) ≡ narrowAnswer (formatOf width) (narrowing f e I J K)
+      (I J K : L.Interval) → Proper (f g) (e g) I → Proper (f g) (e g) J → Proper (f g) (e g) K →
+      narrowOf (g .width) (patternsOf (g .width) I) (patternsOf (g .width) J) (patternsOf (g .width) K) ≡ narrowAnswer (formatOf (g .width)) (narrowing (f g) (e g) I J K)
   narrowed-is I J K x a b =
-      valid-narrow width (patternsOf width I) (patternsOf width J) (patternsOf width K)
-      (written-valid width I (bounded x) known (x .order))
-      (written-valid width J (bounded a) known (a .order))
-      (written-valid width K (bounded b) known (b .order))
-      ∙ rw (written-span width I (bounded x), written-span width J (bounded a), written-span width K (bounded b))
+      valid-narrow (g .width) (patternsOf (g .width) I) (patternsOf (g .width) J) (patternsOf (g .width) K) (valid g I x) (valid g J a) (valid g K b)
+      ∙ rw (written-span (g .width) I (bounded x), written-span (g .width) J (bounded a), written-span (g .width) K (bounded b))
 
-  -- ---- a sum and a diff
-  module _ (three : Three box r) where
-    by-sum : kindOf (r .kind) ≡ sum → (t : Narrowing) → narrowing f e X A B ≡ t → MadeBy (turnSecond width 0 (narrowAnswer (formatOf width) t))
-    by-sum k none h = sum-step f e box r k three none h
-    by-sum k (ends X' A' B') h = (put box r X' A' B', sum-step f e box r k three (ends X' A' B') h, put-places X' A' B')
+  -- ---- a sum and a diff over three cells
+  module _ (three : Three (g .box) (g .r)) where
+    by-sum : kindOf (g .r .kind) ≡ sum → (t : Narrowing) → narrowing (f g) (e g) (X g) (A g) (B g) ≡ t → MadeBy g (turnSecond (g .width) 0 (narrowAnswer (formatOf (g .width)) t))
+    by-sum k none h = sum-step (f g) (e g) (g .box) (g .r) k three none h
+    by-sum k (ends X' A' B') h = (put (g .box) (g .r) X' A' B', sum-step (f g) (e g) (g .box) (g .r) k three (ends X' A' B') h, put-places g X' A' B')
 
-    by-diff : kindOf (r .kind) ≡ diff → (t : Narrowing) → narrowing f e X (reflection f e A) B ≡ t → MadeBy (turnSecond width 1 (narrowAnswer (formatOf width) t))
-    by-diff k none h = diff-step f e box r k three (bounded a-proper) none h
+    by-diff :
+        kindOf (g .r .kind) ≡ diff → (t : Narrowing) → narrowing (f g) (e g) (X g) (reflection (f g) (e g) (A g)) (B g) ≡ t →
+        MadeBy g (turnSecond (g .width) 1 (narrowAnswer (formatOf (g .width)) t))
+    by-diff k none h = diff-step (f g) (e g) (g .box) (g .r) k three (bounded (a-proper g)) none h
     by-diff k (ends X' A' B') h =
-        let H = narrowing-hull f e X (reflection f e A) B X' A' B' h in
-        let b = hull-bounded f e X (reflection f e A) B X' A' B' H (bounded x-proper) (mirror-bounded f e A (bounded a-proper)) (bounded b-proper) .1 in
-        let p : Proper f e A' = record { low = b .low; high = b .high; order = hull-a f e X (reflection f e A) B X' A' B' H .order } in (
-          put box r X' (reflection f e A') B',
-          diff-step f e box r k three (bounded a-proper) (ends X' A' B') h,
-          ap (λ (I : Interval). put (places width n box) r (patternsOf width X') I (patternsOf width B')) (mirror-written width known A' p) ∙ put-places X' (reflection f e A') B',
+        let M = reflection (f g) (e g) (A g) in
+        let H = narrowing-hull (f g) (e g) (X g) M (B g) X' A' B' h in
+        let b = hull-bounded (f g) (e g) (X g) M (B g) X' A' B' H (bounded (x-proper g)) (mirror-bounded (f g) (e g) (A g) (bounded (a-proper g))) (bounded (b-proper g)) .1 in
+        let p : Proper (f g) (e g) A' = record { low = b .low; high = b .high; order = hull-a (f g) (e g) (X g) M (B g) X' A' B' H .order } in (
+          put (g .box) (g .r) X' (reflection (f g) (e g) A') B',
+          diff-step (f g) (e g) (g .box) (g .r) k three (bounded (a-proper g)) (ends X' A' B') h,
+          ap (λ (I : Interval). put (cells g) (g .r) (patternsOf (g .width) X') I (patternsOf (g .width) B')) (mirror-written (g .width) (g .known) A' p)
+              ∙ put-places g X' (reflection (f g) (e g) A') B',
         )
 
-    sum-made : kindOf (r .kind) ≡ sum → MadeBy (turnSecond width 0 (narrowOf width x-cell a-cell b-cell))
+    sum-made : kindOf (g .r .kind) ≡ sum → MadeBy g (turnSecond (g .width) 0 (narrowOf (g .width) (x-cell g) (a-cell g) (b-cell g)))
     sum-made k =
-        subst (λ (t : Narrowed). MadeBy (turnSecond width 0 t))
-        (sym ((λ i. narrowOf width (x-is i) (a-is i) (b-is i)) ∙ narrowed-is X A B x-proper a-proper b-proper))
-        (by-sum k (narrowing f e X A B) refl)
+        subst (λ (t : Narrowed). MadeBy g (turnSecond (g .width) 0 t))
+        (sym ((λ i. narrowOf (g .width) (x-is g i) (a-is g i) (b-is g i)) ∙ narrowed-is (X g) (A g) (B g) (x-proper g) (a-proper g) (b-proper g)))
+        (by-sum k (narrowing (f g) (e g) (X g) (A g) (B g)) refl)
 
-    diff-made : kindOf (r .kind) ≡ diff → MadeBy (turnSecond width 1 (narrowOf width x-cell (mirroredEnds (formatOf width) a-cell) b-cell))
+    diff-made : kindOf (g .r .kind) ≡ diff → MadeBy g (turnSecond (g .width) 1 (narrowOf (g .width) (x-cell g) (mirroredEnds (formatOf (g .width)) (a-cell g)) (b-cell g)))
     diff-made k =
-        let m = ap (mirroredEnds (formatOf width)) a-is ∙ mirror-written width known A a-proper in
-        subst (λ (t : Narrowed). MadeBy (turnSecond width 1 t))
-        (sym ((λ i. narrowOf width (x-is i) (m i) (b-is i)) ∙ narrowed-is X (reflection f e A) B x-proper (mirror-proper f e A a-proper) b-proper))
-        (by-diff k (narrowing f e X (reflection f e A) B) refl)
+        let m = ap (mirroredEnds (formatOf (g .width))) (a-is g) ∙ mirror-written (g .width) (g .known) (A g) (a-proper g) in
+        subst (λ (t : Narrowed). MadeBy g (turnSecond (g .width) 1 t))
+        (sym ((λ i. narrowOf (g .width) (x-is g i) (m i) (b-is g i)) ∙ narrowed-is (X g) (reflection (f g) (e g) (A g)) (B g) (x-proper g) (mirror-proper (f g) (e g) (A g) (a-proper g)) (b-proper g)))
+        (by-diff k (narrowing (f g) (e g) (X g) (reflection (f g) (e g) (A g)) (B g)) refl)
 
-  -- ---- a neg: the third cell is written back as it came
-  module _ (k : kindOf (r .kind) ≡ neg) (two : Two box r) where
+  -- ---- a neg over two cells: the third cell is written back as it came
+  module _ (k : kindOf (g .r .kind) ≡ neg) (two : Two (g .box) (g .r)) where
     abbrev S : L.Interval
-    S = shared X (reflection f e A)
+    S = shared (X g) (reflection (f g) (e g) (A g))
 
-    s-proper : S .low ≤ S .high → Proper f e S
-    s-proper o = record {
-      low = record { low = omega (arith, x-proper .low .low); high = omega (arith, x-proper .high .high, o) };
-      high = record { low = omega (arith, x-proper .low .low, o); high = omega (arith, x-proper .high .high) };
-      order = o;
-    }
+    s-proper : S .low ≤ S .high → Proper (f g) (e g) S
+    s-proper o =
+        let p = x-proper g in
+        record {
+          low = record { low = omega (arith, p .low .low); high = omega (arith, p .high .high, o) };
+          high = record { low = omega (arith, p .low .low, o); high = omega (arith, p .high .high) };
+          order = o;
+        }
 
-    by-neg : (t : Bool) → leb (S .low) (S .high) ≡ t → MadeBy (pairBy width b-cell (cond t (Shared (patternsOf width S)) Empty))
-    by-neg true o = (
-      set (set box (r .a) (reflection f e S)) (r .x) S,
-      neg-solved f e box r k two (bounded x-proper) (bounded a-proper) (leb-true _ _ o),
-      ap (λ (I : Interval). put (places width n box) r (patternsOf width S) I b-cell) (mirror-written width known S (s-proper (leb-true _ _ o)))
-          ∙ ap (λ (l : List Interval). set (set l (r .a) (patternsOf width (reflection f e S))) (r .x) (patternsOf width S)) (set-getD (places width n box) (r .b) noCell)
-          ∙ pair-places box (is .cells) S (reflection f e S),
+    by-mirror : (t : Bool) → leb (S .low) (S .high) ≡ t → MadeBy g (mirrorBy (g .width) (b-cell g) (cond t (Shared (patternsOf (g .width) S)) Empty))
+    by-mirror true o = (
+      set (set (g .box) (g .r .a) (reflection (f g) (e g) S)) (g .r .x) S,
+      neg-solved (f g) (e g) (g .box) (g .r) k two (bounded (x-proper g)) (bounded (a-proper g)) (leb-true _ _ o),
+      ap (λ (I : Interval). put (cells g) (g .r) (patternsOf (g .width) S) I (b-cell g)) (mirror-written (g .width) (g .known) S (s-proper (leb-true _ _ o)))
+          ∙ ap (λ (l : List Interval). set (set l (g .r .a) (patternsOf (g .width) (reflection (f g) (e g) S))) (g .r .x) (patternsOf (g .width) S)) (set-getD (cells g) (g .r .b) noCell)
+          ∙ pair-places g (g .box) (g .is .cells) S (reflection (f g) (e g) S),
     )
-    by-neg false o = neg-unsolved f e box r k two (bounded x-proper) (bounded a-proper) (leb-false _ _ o)
+    by-mirror false o = neg-unsolved (f g) (e g) (g .box) (g .r) k two (bounded (x-proper g)) (bounded (a-proper g)) (leb-false _ _ o)
 
-    neg-made : MadeBy (negAnswer width x-cell a-cell b-cell)
-    neg-made =
-        let m = ap (mirroredEnds (formatOf width)) a-is ∙ mirror-written width known A a-proper in
-        subst (λ (t : Cut). MadeBy (pairBy width b-cell t))
-        (sym ((λ i. cutOf width (x-is i) (m i)) ∙ cut-written width known X (reflection f e A) x-proper (mirror-proper f e A a-proper)))
-        (by-neg (leb (S .low) (S .high)) refl)
+    mirror-made : MadeBy g (mirrorAnswer (g .width) (x-cell g) (a-cell g) (b-cell g))
+    mirror-made =
+        let m = ap (mirroredEnds (formatOf (g .width))) (a-is g) ∙ mirror-written (g .width) (g .known) (A g) (a-proper g) in
+        subst (λ (t : Cut). MadeBy g (mirrorBy (g .width) (b-cell g) t))
+        (sym ((λ i. cutOf (g .width) (x-is g i) (m i)) ∙ cut-written (g .width) (g .known) (X g) (reflection (f g) (e g) (A g)) (x-proper g) (mirror-proper (f g) (e g) (A g) (a-proper g))))
+        (by-mirror (leb (S .low) (S .high)) refl)
 
   -- ---- a record of any kind
-  abbrev MadeOf : ℕ → Type 0
-  MadeOf kind = MadeBy (recordAnswer width kind x-cell a-cell b-cell)
-
-  distinct-three : Distinct (r .x ∷ r .a ∷ r .b ∷ []) → Three box r
-  distinct-three d = record {
-    x-in = in-box (first-in n r names);
-    a-in = in-box (second-in n r names);
-    b-in = in-box (third-in n r names);
-    a-x = λ z. d .0 .0 (sym z);
-    b-x = λ z. d .0 .1 .0 (sym z);
-    b-a = λ z. d .1 .0 .0 (sym z);
+  three : g .r .a ≢ g .r .x → g .r .b ≢ g .r .x → g .r .b ≢ g .r .a → Three (g .box) (g .r)
+  three p q s = record {
+    x-in = in-box g (first-in (g .n) (g .r) (g .names));
+    a-in = in-box g (second-in (g .n) (g .r) (g .names));
+    b-in = in-box g (third-in (g .n) (g .r) (g .names));
+    a-x = p;
+    b-x = q;
+    b-a = s;
   }
 
-  distinct-two : Distinct (r .x ∷ r .a ∷ []) → Two box r
-  distinct-two d = record { x-in = in-box (first-in n r names); a-in = in-box (second-in n r names); a-x = λ z. d .0 .0 (sym z) }
+  abbrev AnswerMade : ℕ → Cells → Type 0
+  AnswerMade kind t = MadeBy g (answerBy t (g .width) kind (x-cell g) (a-cell g) (b-cell g))
 
-  all-made : MadeOf (r .kind)
-  unfolding recordAnswer
-  all-made = go (kinded (r .kind))
+  by-sum-cells : kindOf (g .r .kind) ≡ sum → (t : Cells) → CellsAre (g .r .x) (g .r .a) (g .r .b) t → AnswerMade 0 t
+  by-sum-cells k Apart (apart p q s) = sum-made (three p q s) k
+  by-sum-cells k (Repeated w) (twice h) = sum-repeated g k w h
+
+  by-diff-cells : kindOf (g .r .kind) ≡ diff → (t : Cells) → CellsAre (g .r .x) (g .r .a) (g .r .b) t → AnswerMade 1 t
+  by-diff-cells k Apart (apart p q s) = diff-made (three p q s) k
+  by-diff-cells k (Repeated w) (twice h) = diff-repeated g k w h
+
+  by-neg : kindOf (g .r .kind) ≡ neg → MadeBy g (negAnswer (g .width) (eqb (g .r .x) (g .r .a)) (x-cell g) (a-cell g) (b-cell g))
+  by-neg k = go (ℕ-discrete (g .r .x) (g .r .a))
     where
-      go : Kinded (r .kind) → MadeOf (r .kind)
-      go (a-sum z k) = subst MadeOf (sym z) (sum-made (distinct-three (to-kind r sum k Distinct (names .differ))) k)
-      go (a-diff z k) = subst MadeOf (sym z) (diff-made (distinct-three (to-kind r diff k Distinct (names .differ))) k)
+      go : Dec (g .r .x ≡ g .r .a) → MadeBy g (negAnswer (g .width) (eqb (g .r .x) (g .r .a)) (x-cell g) (a-cell g) (b-cell g))
+      go (yes h) = rw (eq-eqb _ _ h) (neg-repeated g k (sym h))
+      go (no n) = rw (ne-eqb _ _ n) (mirror-made k (record { x-in = in-box g (first-in (g .n) (g .r) (g .names)); a-in = in-box g (second-in (g .n) (g .r) (g .names)); a-x = λ h. n (sym h) }))
+
+  abbrev RecordMade : ℕ → Type 0
+  RecordMade kind =
+      MadeBy g
+      (cond (ltb 1 kind)
+      (negAnswer (g .width) (eqb (g .r .x) (g .r .a)) (x-cell g) (a-cell g) (b-cell g))
+      (answerBy (cellsOf (g .r .x) (g .r .a) (g .r .b)) (g .width) kind (x-cell g) (a-cell g) (b-cell g)))
+
+  all-made : MadeBy g (recordAnswer (g .width) (g .r) (x-cell g) (a-cell g) (b-cell g))
+  unfolding recordAnswer
+  all-made = go (kinded (g .r .kind))
+    where
+      go : Kinded (g .r .kind) → RecordMade (g .r .kind)
+      go (a-sum z k) = subst RecordMade (sym z) (by-sum-cells k _ (cells-are (g .r .x) (g .r .a) (g .r .b)))
+      go (a-diff z k) = subst RecordMade (sym z) (by-diff-cells k _ (cells-are (g .r .x) (g .r .a) (g .r .b)))
       go (a-neg l k) =
-          let z : 2 ≡ r .kind = omega (arith, l, names .kind) in
-          subst MadeOf z (neg-made k (distinct-two (to-kind r neg k Distinct (names .differ))))
+          let z : 2 ≡ g .r .kind = omega (arith, l, g .names .kind) in
+          subst RecordMade z (by-neg k)
 
 -- ---- a step on cells that stand for a box, by what the record's answer is
-module _ (width n : ℕ) (known : isKnown width ≡ true) (r : Record) (names : Names n r) (cells : List Interval) (shows : Shows width n cells) where
-  abbrev box : Box
-  box = boxIn width n cells
+module _ (width n : ℕ) (known : isKnown width ≡ true) (r : Record) (names : Names n r) (l : List Interval) (shows : Shows width n l) where
+  abbrev setting : Setting
+  setting = record { width = width; n = n; known = known; r = r; names = names; box = boxIn width n l; is = shows .box }
 
   abbrev answer : Narrowed
-  answer = recordAnswer width (r .kind) (getD cells (r .x) noCell) (getD cells (r .a) noCell) (getD cells (r .b) noCell)
+  answer = recordAnswer width r (getD l (r .x) noCell) (getD l (r .a) noCell) (getD l (r .b) noCell)
 
-  made : (t : Narrowed) → answer ≡ t → MadeBy width n known r names box (shows .box) t
+  made : (t : Narrowed) → answer ≡ t → MadeBy setting t
   made t q =
-      subst (MadeBy width n known r names box (shows .box))
-      (ap (λ (l : List Interval). recordAnswer width (r .kind) (getD l (r .x) noCell) (getD l (r .a) noCell) (getD l (r .b) noCell)) (sym (shows .held)) ∙ q)
-      (all-made width n known r names box (shows .box))
+      subst (MadeBy setting)
+      (ap (λ (c : List Interval). recordAnswer width r (getD c (r .x) noCell) (getD c (r .a) noCell) (getD c (r .b) noCell)) (sym (shows .held)) ∙ q)
+      (all-made setting)
 
-  pub step-off : (q : Refusal) → answer ≡ Refused q → step (rulesOf width) box r ≡ unsolved
+  pub step-off : (q : Refusal) → answer ≡ Refused q → step (rulesOf width) (boxIn width n l) r ≡ unsolved
   step-off q h = made (Refused q) h
 
-  pub step-on : (x a b : Interval) → answer ≡ Ends x a b → (step (rulesOf width) box r ≡ left (boxIn width n (put cells r x a b))) × Shows width n (put cells r x a b)
+  pub step-on : (x a b : Interval) → answer ≡ Ends x a b → (step (rulesOf width) (boxIn width n l) r ≡ left (boxIn width n (put l r x a b))) × Shows width n (put l r x a b)
   step-on x a b h =
       let m = made (Ends x a b) h in
       let new = m .0 in
-      let c : put cells r x a b ≡ places width n new = ap (λ (l : List Interval). put l r x a b) (shows .held) ∙ m .2 in
-      let i = shrunk-box (fractionOf width) (exponentOf width) n box new (step-shrunk (rulesOf width) box new r (m .1)) (shows .box) in
+      let c : put l r x a b ≡ places width n new = ap (λ (c : List Interval). put c r x a b) (shows .held) ∙ m .2 in
+      let i = shrunk-box (fractionOf width) (exponentOf width) n (boxIn width n l) new (step-shrunk (rulesOf width) (boxIn width n l) new r (m .1)) (shows .box) in
       (m .1 ∙ ap left (sym (box-found width n new i) ∙ ap (boxIn width n) (sym c)), subst (Shows width n) (sym c) (places-show width n new i))
 
 -- ---- a comparison

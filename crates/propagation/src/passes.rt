@@ -41,7 +41,7 @@ fn same_cells(count: u64, p: [Interval; 64], q: [Interval; 64]) -> bool
     true
 }
 
-// The run on a sheet that is tested and tidied. The third number of a neg is 0, so cell 0 is written back as it was, before a neg's own cells are written.
+// The run on a sheet that is tested and tidied. The third number of a neg is 0, so cell 0 is written back as it was, before a neg's own cells are written. A cell that a record names more than once gets the same interval each time.
 pub(crate) fn run_passes(sheet: Sheet) -> Halted
     requires { ⌜ Ready sheet ⌝ }
     ensures { λ t. ⌜ EndsAs sheet t (endOf sheet) ⌝ }
@@ -60,8 +60,7 @@ pub(crate) fn run_passes(sheet: Sheet) -> Halted
             let x = cells[record.x as usize];
             let a = cells[record.a as usize];
             let b = cells[record.b as usize];
-            let Narrowed::Ends { x: p, a: q, b: r } = narrow_record(width, record.kind, x, a, b)
-            else {
+            let Narrowed::Ends { x: p, a: q, b: r } = narrow_record(width, record, x, a, b) else {
                 break 'passes Outcome::NoTriple { pass, record: k };
             };
             cells[record.b as usize] = r;

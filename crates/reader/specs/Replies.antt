@@ -26,7 +26,7 @@ stepTold End = gives []
 stepTold (Refused r) = refuses r
 
 -- ---- a line at the cursor; a refusal's place is the cursor's line
--- 4; and after it 1, 7 for a head, 2, 3, 10 for a cell, 5, 6, 10 for a record over cells
+-- 4; and after it 1, 7 for a head, 2, 3, 10 for a cell, 5, 10 for a record over cells
 abbrev pub lineTests : Line → Cursor → List Test
 lineTests (Line.Head w m) c = faultless (headFault w m) (c .line) ∷ []
 lineTests (Line.Cell I) c = faultless (cellFault (c .width) I) (c .line) ∷ testAt (ltb (c .«cell_count») 64) 10 (c .line) ∷ []

@@ -41,7 +41,7 @@ cellStep I line c =
     (refusedAt 10 line))
     (refusedAt (cellFault (c .width) I) line)
 
--- a record over cells, in the order of adding: 5, 6, 10; its kind is that of its word, so there is no 4
+-- a record over cells, in the order of adding: 5, 10; its kind is that of its word, so there is no 4
 unfoldable pub recordStep : Record → ℕ → Cursor → Step
 recordStep t line c =
     cond (eqb (recordFault (c .«cell_count») t) 0)

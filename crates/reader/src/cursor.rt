@@ -127,7 +127,7 @@ fn cell_step(cell: Interval, line: u64, c: Cursor) -> Step
     }
 }
 
-// A sum, diff or neg in a line, in the order of adding: refusals 5, 6, 10. Past its line stands the cursor c.
+// A sum, diff or neg in a line, in the order of adding: refusals 5, 10. Past its line stands the cursor c.
 fn record_step(record: Record, line: u64, c: Cursor) -> Step
     ensures { λ r. ⌜ r ≡ recordStep «record» line c ⌝ }
 {

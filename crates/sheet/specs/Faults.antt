@@ -1,5 +1,6 @@
 -- What is wrong with a sheet's head, a cell or a record, by 01's refusal number, 0 for nothing. Opening, adding and testing follow this order. Assumes nothing.
-use mathlib.Core.Bool.{cond}
+use mathlib.Core.Bool.{Bool, cond, _&&_}
+use mathlib.Core.List.{List, [], _∷_}
 use Prim.Native.Nat.{ℕ}
 use lib.Dec.{ltb, leb, eqb}
 use Rattle.arith.specs.declared.interval.Interval.{Interval}
@@ -8,6 +9,7 @@ use Rattle.arith.specs.Formats.{isKnown}
 use Rattle.arith.specs.Intervals.{canonicalOf}
 use Rattle.arith.specs.Answers.{imageTold}
 use Rattle.sheet.specs.declared.kept.Record.{Record}
+use Rattle.sheet.specs.Records.{named}
 
 -- the width and the pass limit: 1; 7 for a limit of 0 or above 65,535
 unfoldable pub headFault : ℕ → ℕ → ℕ
@@ -25,27 +27,18 @@ imageNumber i = imageTold i .number
 unfoldable pub cellFault : ℕ → Interval → ℕ
 cellFault width cell = imageNumber (canonicalOf width cell)
 
--- three cells of n: 5 for one the sheet has not got; 6 for one named twice
-unfoldable pub tripleFault : ℕ → ℕ → ℕ → ℕ → ℕ
-tripleFault n x a b =
-    cond (leb n x) 5
-    (cond (leb n a) 5
-    (cond (leb n b) 5
-    (cond (eqb x a) 6
-    (cond (eqb x b) 6
-    (cond (eqb a b) 6 0)))))
+-- whether a record is a neg whose third number is not 0
+abbrev pub hasThird : Record → Bool
+hasThird r = eqb (r .kind) 2 && ltb 0 (r .b)
 
--- two cells of n: the same
-unfoldable pub pairFault : ℕ → ℕ → ℕ → ℕ
-pairFault n x a =
-    cond (leb n x) 5
-    (cond (leb n a) 5
-    (cond (eqb x a) 6 0))
+-- cells that a record names, of n: 5 for one that the sheet has not got
+unfoldable pub namedFault : ℕ → List ℕ → ℕ
+namedFault n [] = 0
+namedFault n (i ∷ is) = cond (leb n i) 5 (namedFault n is)
 
--- a record over n cells: 4 for a kind that is none of 0, 1, 2, and for a neg whose third number is not 0; then 5 and 6 for the cells that it names
+-- a record over n cells: 4 for a kind that is none of 0, 1, 2, and for a neg whose third number is not 0; then 5 for the cells that it names
 unfoldable pub recordFault : ℕ → Record → ℕ
 recordFault n r =
     cond (ltb 2 (r .kind)) 4
-    (cond (eqb (r .kind) 2)
-    (cond (eqb (r .b) 0) (pairFault n (r .x) (r .a)) 4)
-    (tripleFault n (r .x) (r .a) (r .b)))
+    (cond (hasThird r) 4
+    (namedFault n (named r)))

@@ -1,6 +1,5 @@
 -- 02's records: sums, diffs and negs over the cells of a sheet; the cells that one names, and when values fit it. Assumes nothing.
 use mathlib.Core.Path.{_≡_}
-use mathlib.Core.Logic.{_≢_}
 use mathlib.Core.Bool.{Bool, cond}
 use mathlib.Core.List.{List, [], _∷_}
 use Prim.Native.Nat.{ℕ, _<_}
@@ -32,7 +31,7 @@ abbrev pub named : Record → List ℕ
 named r = namedBy (kindOf (r .kind)) r
 
 -- ---- values
--- a value for each cell, by its ordinal
+-- a value for each cell, by its ordinal: one value, wherever a record names the cell (02, R-4)
 abbrev pub Values : Type 0
 Values = ℕ → ℕ
 
@@ -55,14 +54,8 @@ unfoldable pub fits : ℕ → ℕ → Rules
 fits f e r v = fitsBy f e (kindOf (r .kind)) (v (r .x)) (v (r .a)) (v (r .b))
 
 -- ---- a record over n cells
--- no two of some numbers are the same
-abbrev pub Distinct : List ℕ → Type 0
-Distinct [] = Unit {0}
-Distinct (i ∷ is) = Each (λ j. i ≢ j) is × Distinct is
-
--- one that is not refused: its kind is one of the three and the third number of a neg is 0 (else 4); the cells that it names are there (else 5) and differ (else 6)
+-- one that is not refused: its kind is one of the three and the third number of a neg is 0 (else 4); the cells that it names are there (else 5)
 pub record Names (n : ℕ) (r : Record) : Type 0 where
   pub kind : r .kind < 3
   pub third : kindOf (r .kind) ≡ neg → r .b ≡ 0
   pub cells : Each (λ i. i < n) (named r)
-  pub differ : Distinct (named r)

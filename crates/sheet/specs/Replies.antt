@@ -33,7 +33,7 @@ allFaultless fault i (v ∷ vs) = faultless (fault v) i ∷ allFaultless fault (
 abbrev pub openTests : ℕ → ℕ → List Test
 openTests width limit = faultless (headFault width limit) 0 ∷ []
 
--- lists: 1; 7; 10 for the cells, then for the records, at the first index too many; 2 and 3 cell by cell; 4, 5 and 6 record by record
+-- lists: 1; 7; 10 for the cells, then for the records, at the first index too many; 2 and 3 cell by cell; 4 and 5 record by record
 abbrev pub listTests : ℕ → ℕ → ℕ → ℕ → List Interval → List Record → List Test
 listTests width limit cellCount recordCount cells records =
     openTests width limit ++
@@ -49,7 +49,7 @@ sheetTests s = listTests (s .width) (s .limit) (s .«cell_count») (s .«record_
 abbrev pub addCellTests : Sheet → Interval → List Test
 addCellTests s cell = sheetTests s ++ faultless (cellFault (s .width) cell) 0 ∷ testAt (ltb (s .«cell_count») 64) 10 0 ∷ []
 
--- adding a record: the sheet's own tests; 4, 5, 6, 10 at place 0
+-- adding a record: the sheet's own tests; 4, 5, 10 at place 0
 abbrev pub addRecordTests : Sheet → Record → List Test
 addRecordTests s r = sheetTests s ++ faultless (recordFault (s .«cell_count») r) 0 ∷ testAt (ltb (s .«record_count») 128) 10 0 ∷ []
 

@@ -110,7 +110,7 @@ unfoldable pub firstFault : {A : Type 0} → (A → ℕ) → ℕ → List A → 
 firstFault fault i [] = Done
 firstFault fault i (v ∷ vs) = andThen (faultAt (fault v) i) (firstFault fault (i + 1) vs)
 
--- 1; 7; 10 for the cells, then for the records, at the first index too many; 2 and 3 cell by cell; 4, 5 and 6 record by record
+-- 1; 7; 10 for the cells, then for the records, at the first index too many; 2 and 3 cell by cell; 4 and 5 record by record
 unfoldable pub testLists : ℕ → ℕ → ℕ → ℕ → List Interval → List Record → Answer
 testLists width limit cellCount recordCount cells records =
     andThen (faultAt (headFault width limit) 0)
@@ -173,7 +173,7 @@ addCellOf s cell =
     s
     (withCell (tidied s) (canonicalCell (s .width) cell))
 
--- adding a record: 4, 5, 6, 10
+-- adding a record: 4, 5, 10
 unfoldable pub addRecordOf : Sheet → Record → Kept
 addRecordOf s r =
     keptBy (addTest (testOf s) (recordFault (s .«cell_count») r) (ltb (s .«record_count») 128))

@@ -51,7 +51,7 @@ pub fn add_cell(sheet: Sheet, cell: Interval) -> Kept
     }
 }
 
-// Adds a record; refusals of the sheet, then 4, 5, 6, 10.
+// Adds a record; refusals of the sheet, then 4, 5, 10.
 pub fn add_record(sheet: Sheet, record: Record) -> Kept
     ensures { λ r. ⌜ r ≡ addRecordOf sheet «record» ⌝ }
     ensures { λ r. ⌜ Keeps sheet (withRecord (tidied sheet) «record») (addRecordTests sheet «record») r ⌝ }

@@ -1,6 +1,7 @@
 // What is wrong with a head, a cell or a record: 0, or the refusal's number. The one place of their order.
 ghost use mathlib.Core.Path.{_≡_};
-ghost use Rattle.sheet.specs.Faults.{headFault, cellFault, tripleFault, pairFault, recordFault};
+ghost use mathlib.Core.List.{[], _∷_};
+ghost use Rattle.sheet.specs.Faults.{headFault, cellFault, namedFault, recordFault};
 use crate::kept::Record;
 use arith::format::known;
 use arith::interval::Image;
@@ -32,34 +33,9 @@ pub fn cell_fault(width: u64, cell: Interval) -> u64
     }
 }
 
-// 0 for three cells that are there and differ, else 5 or 6.
-fn triple_fault(cell_count: u64, x: u64, a: u64, b: u64) -> u64
-    ensures { λ r. ⌜ r ≡ tripleFault «cell_count» x a b ⌝ }
-{
-    if cell_count <= x {
-        return 5;
-    }
-    if cell_count <= a {
-        return 5;
-    }
-    if cell_count <= b {
-        return 5;
-    }
-    if x == a {
-        return 6;
-    }
-    if x == b {
-        return 6;
-    }
-    if a == b {
-        return 6;
-    }
-    0
-}
-
-// 0 for two cells that are there and differ, else 5 or 6.
+// 0 for two cells that are there, else 5.
 fn pair_fault(cell_count: u64, x: u64, a: u64) -> u64
-    ensures { λ r. ⌜ r ≡ pairFault «cell_count» x a ⌝ }
+    ensures { λ r. ⌜ r ≡ namedFault «cell_count» (x ∷ a ∷ []) ⌝ }
 {
     if cell_count <= x {
         return 5;
@@ -67,13 +43,20 @@ fn pair_fault(cell_count: u64, x: u64, a: u64) -> u64
     if cell_count <= a {
         return 5;
     }
-    if x == a {
-        return 6;
-    }
     0
 }
 
-// 0 for a record of a known kind whose cells are there and differ, else 4, 5 or 6. The third number of a neg is 0, else 4, and names no cell.
+// 0 for three cells that are there, else 5.
+fn triple_fault(cell_count: u64, x: u64, a: u64, b: u64) -> u64
+    ensures { λ r. ⌜ r ≡ namedFault «cell_count» (x ∷ a ∷ b ∷ []) ⌝ }
+{
+    if cell_count <= x {
+        return 5;
+    }
+    pair_fault(cell_count, a, b)
+}
+
+// 0 for a record of a known kind whose cells are there, else 4 or 5. The third number of a neg is 0, else 4, and names no cell.
 pub fn record_fault(cell_count: u64, record: Record) -> u64
     ensures { λ r. ⌜ r ≡ recordFault «cell_count» «record» ⌝ }
 {

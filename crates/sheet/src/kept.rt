@@ -7,7 +7,7 @@ use arith::interval::Interval;
 use arith::refusal::Refusal;
 use arith::refusal::refuse;
 
-// A record over cells, by their numbers. Kind 0 is a sum, x + a = b; kind 1 a diff, x + (-a) = b; kind 2 a neg, a = -x, whose b is 0 and names no cell.
+// A record over cells, by their numbers; it may name a cell more than once. Kind 0 is a sum, x + a = b; kind 1 a diff, x + (-a) = b; kind 2 a neg, a = -x, whose b is 0 and names no cell.
 pub struct Record {
     pub kind: u64,
     pub x: u64,

@@ -70,7 +70,7 @@ fn listing() -> Sheet {
     with_record(s, 0, 0, 1, 2)
 }
 
-// Calls that a sheet of three cells with room refuses: 2, 3; 4 before 5 before 6, for each kind. It stays as it was.
+// Calls that a sheet of three cells with room refuses: 2, 3; 4 before 5, for each kind. It stays as it was.
 fn refuse_faults(sheet: Sheet) -> Sheet {
     let s = with_cell(sheet, 1, 0x7FF0000000000000);
     let s = with_cell(s, 1, 0);
@@ -78,10 +78,14 @@ fn refuse_faults(sheet: Sheet) -> Sheet {
     let s = with_record(s, 2, 3, 3, 1);
     let s = with_record(s, 0, 0, 0, 3);
     let s = with_record(s, 1, 0, 0, 3);
-    let s = with_record(s, 2, 3, 3, 0);
-    let s = with_record(s, 0, 0, 1, 0);
+    with_record(s, 2, 3, 3, 0)
+}
+
+// A record of each kind that names a cell more than once is added like any other.
+fn repeat_cells(sheet: Sheet) {
+    let s = with_record(sheet, 0, 0, 1, 0);
     let s = with_record(s, 1, 0, 1, 1);
-    with_record(s, 2, 1, 1, 0)
+    with_record(s, 2, 1, 1, 0);
 }
 
 // A faultless sheet of 64 cells and 128 records: 10 after the faults of what is added.
@@ -93,6 +97,7 @@ fn refuse_room() {
     s.records = [record; 128];
     let s = with_cell(s, 1, 0);
     let s = with_cell(s, 0, 0);
+    let s = with_record(s, 0, 0, 0, 64);
     let s = with_record(s, 0, 0, 0, 2);
     with_record(s, 2, 0, 1, 0);
 }
@@ -138,7 +143,7 @@ fn with_record_1(kind: u64, x: u64, a: u64, b: u64) -> Sheet {
     s
 }
 
-// Sheets handed in, tested in the order of lists: head, counts, a cell and a record by their index; one that is faultless, which gets zero's one pattern.
+// Sheets handed in, tested in the order of lists: head, counts, a cell and a record by their index; two that are faultless, which get zero's one pattern.
 fn read_handed() {
     read_head(48, 0, 65, 129);
     read_head(64, 65536, 65, 129);
@@ -168,5 +173,7 @@ pub(crate) fn build() -> Sheet {
     read_handed();
     refuse_faulty();
     refuse_room();
-    refuse_faults(listing())
+    let s = refuse_faults(listing());
+    repeat_cells(s);
+    s
 }

@@ -84,7 +84,7 @@ fn over_cells(kind: u64, x: u64, a: u64, b: u64) -> Record {
     }
 }
 
-// A record over n cells, a sum, a diff or a neg: one cell of each third, in some cases x and b exchanged, in six of 256 a faulty one; 0 1 2 where there are fewer than three cells.
+// A record over n cells, a sum, a diff or a neg: one cell of each third, in some cases x and b exchanged, in some a cell named more than once, in four of 256 a faulty one; 0 1 2 where there are fewer than three cells.
 fn record_of(n: u64, calm: bool, w: u64) -> Record {
     let kind = (w >> 32) % 3;
     let k = n % 67 / 3;
@@ -102,8 +102,11 @@ fn record_of(n: u64, calm: bool, w: u64) -> Record {
         1 => over_cells(kind, n, a, b),
         2 => over_cells(3, x, a, b),
         3 => over_cells(w | 3, x, a, b),
-        4..=5 => over_cells(kind, x, x, b),
-        6..=83 => over_cells(kind, b, a, x),
+        4..=11 => over_cells(kind, x, x, b),
+        12..=19 => over_cells(kind, x, a, x),
+        20..=27 => over_cells(kind, x, a, a),
+        28..=35 => over_cells(kind, x, x, x),
+        36..=111 => over_cells(kind, b, a, x),
         _ => over_cells(kind, x, a, b),
     }
 }

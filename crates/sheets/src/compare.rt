@@ -6,6 +6,7 @@ use crate::cases::Records;
 use crate::cases::make_cells;
 use crate::cases::make_records;
 use crate::cases::next_word;
+use crate::lending::Left;
 use crate::lending::lend;
 use crate::reply::equal;
 use crate::reply::reply_of;
@@ -66,16 +67,20 @@ fn same_cells(
     true
 }
 
-// One case, counted.
-fn compare_case(
-    tally: Tally,
+// What lent lists leave, and whether the kept sheet of the same cells and records ends alike.
+pub(crate) struct Both {
+    pub(crate) left: Left,
+    pub(crate) alike: bool,
+}
+
+pub(crate) fn narrow_both(
     width: u64,
     limit: u64,
     cells: Cells,
     n: usize,
     records: Records,
     m: usize,
-) -> Tally
+) -> Both
     requires { ⌜ (n ≤ 66) × (m ≤ 130) ⌝ }
 {
     let given = cells.lent;
@@ -96,11 +101,29 @@ fn compare_case(
     let narrowed = run.sheet;
     let after = left.cells;
     let kept_after = narrowed.cells;
-    let mut agrees = equal(reply_of(lent_outcome), reply_of(outcome));
+    let mut alike = equal(reply_of(lent_outcome), reply_of(outcome));
     if !same_cells(stores(outcome), n, after, given, kept_after) {
-        agrees = false;
+        alike = false;
     }
-    count_verdict(count_outcome(tally, lent_outcome), agrees)
+    Both { left, alike }
+}
+
+// One case, counted.
+fn compare_case(
+    tally: Tally,
+    width: u64,
+    limit: u64,
+    cells: Cells,
+    n: usize,
+    records: Records,
+    m: usize,
+) -> Tally
+    requires { ⌜ (n ≤ 66) × (m ≤ 130) ⌝ }
+{
+    let both = narrow_both(width, limit, cells, n, records, m);
+    let left = both.left;
+    let outcome = left.outcome;
+    count_verdict(count_outcome(tally, outcome), both.alike)
 }
 
 // Case c: every length of cells in turn; widths, limits, records and faults by the word w.

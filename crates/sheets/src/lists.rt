@@ -1,7 +1,9 @@
-// 01's sheets and records of each kind, run as lent lists: outcome, passes, record and the first four cells of the array.
+// 01's sheets and records of each kind, run as lent lists: outcome, passes, record and the first four cells of the array. The verdict holds of the kept sheet of the same cells and records too.
 ghost use Prim.Native.Nat.{_≤_};
+use crate::cases::Cells;
+use crate::cases::Records;
+use crate::compare::narrow_both;
 use crate::compare::same;
-use crate::lending::lend;
 use crate::print::put_interval;
 use crate::print::put_number;
 use crate::print::put_record;
@@ -18,7 +20,7 @@ use arith::interval::Interval;
 use sheet::kept::Record;
 
 // The first four cells of an array.
-struct Four {
+pub(crate) struct Four {
     c0: Interval,
     c1: Interval,
     c2: Interval,
@@ -34,19 +36,24 @@ fn four_of(cells: [Interval; 66]) -> Four {
     }
 }
 
-// The array with these cells first, and zero in the other places.
-fn array_of(f: Four) -> [Interval; 66] {
+// These cells first, and zero in the other places.
+fn cells_of(f: Four) -> Cells {
     let none = point(0);
-    let mut cells = [none; 66];
+    let mut lent = [none; 66];
+    let mut kept = [none; 64];
     let c0 = f.c0;
     let c1 = f.c1;
     let c2 = f.c2;
     let c3 = f.c3;
-    cells[0] = c0;
-    cells[1] = c1;
-    cells[2] = c2;
-    cells[3] = c3;
-    cells
+    lent[0] = c0;
+    lent[1] = c1;
+    lent[2] = c2;
+    lent[3] = c3;
+    kept[0] = c0;
+    kept[1] = c1;
+    kept[2] = c2;
+    kept[3] = c3;
+    Cells { lent, kept }
 }
 
 fn equal_cells(f: Four, g: Four) -> bool {
@@ -77,7 +84,7 @@ fn put_reply(r: Reply) {
     put_number(r.second);
 }
 
-fn point(p: u64) -> Interval {
+pub(crate) fn point(p: u64) -> Interval {
     Interval::new(p, p)
 }
 
@@ -85,36 +92,35 @@ pub(crate) fn of_kind(kind: u64, x: u64, a: u64, b: u64) -> Record {
     Record { kind, x, a, b }
 }
 
-// The sums of 01's second sheet; its listing has the first of them.
-fn both_sums() -> [Record; 130] {
-    let first = of_kind(0, 0, 1, 2);
-    let mut records = [first; 130];
-    records[1] = of_kind(0, 2, 3, 0);
-    records
+// Two records, the second in every place but the first.
+fn records_of(first: Record, second: Record) -> Records {
+    let mut lent = [second; 130];
+    let mut kept = [second; 128];
+    lent[0] = first;
+    kept[0] = first;
+    Records { lent, kept }
 }
 
-// The rest of a line for a call over n of these cells and m of the records: its outcome and the first four cells after it, and whether they are the ones expected.
-fn read(
-    limit: u64,
-    given: Four,
-    n: usize,
-    records: [Record; 130],
-    m: usize,
-    reply: Reply,
-    expected: Four,
-)
+// The sums of 01's second sheet; its listing has the first of them.
+fn both_sums() -> Records {
+    records_of(of_kind(0, 0, 1, 2), of_kind(0, 2, 3, 0))
+}
+
+// The rest of a line for a call over n of these cells and m of the records: its outcome and the first four cells after it, and whether they are the ones expected, of the kept sheet too.
+fn read(limit: u64, given: Four, n: usize, records: Records, m: usize, reply: Reply, expected: Four)
     requires { ⌜ (n ≤ 66) × (m ≤ 130) ⌝ }
 {
     put_text(b", limit");
     put_number(limit);
-    let left = lend(64, limit, array_of(given), n, records, m);
+    let both = narrow_both(64, limit, cells_of(given), n, records, m);
+    let left = both.left;
     let outcome = left.outcome;
     let after = left.cells;
     let got = reply_of(outcome);
     let cells = four_of(after);
     put_reply(got);
     put_cells(cells);
-    put_verdict(equal(got, reply) & equal_cells(cells, expected));
+    put_verdict(equal(got, reply) & equal_cells(cells, expected) & both.alike);
 }
 
 // 01's listing, three cells and one sum. The fourth cell is not lent, so its zero keeps its sign.
@@ -153,8 +159,8 @@ fn read_two_sums(limit: u64, reply: Reply, low: u64, high: u64) {
     read(limit, given, 4, both_sums(), 2, reply, expected);
 }
 
-// Three cells at small places, where every sum is exact. The fourth is not lent, so its zero keeps its sign.
-fn small(c0: Interval, c1: Interval, c2: Interval) -> Four {
+// Three cells. The fourth is not lent, so its zero keeps its sign.
+pub(crate) fn three(c0: Interval, c1: Interval, c2: Interval) -> Four {
     Four {
         c0,
         c1,
@@ -163,21 +169,25 @@ fn small(c0: Interval, c1: Interval, c2: Interval) -> Four {
     }
 }
 
-// Cell 0 from zero with its sign set to place 9, cell 1 from -5 to 4, cell 2 from -7 to 6.
-fn small_given() -> Four {
-    small(
+// Small places, where every sum is exact: cell 0 from zero with its sign set to place 9, cell 1 from -5 to 4, cell 2 from -7 to 6.
+fn small() -> Four {
+    three(
         Interval::new(0x8000000000000000, 9),
         Interval::new(0x8000000000000005, 4),
         Interval::new(0x8000000000000007, 6),
     )
 }
 
-// A line for one record over them.
-fn read_one(record: Record, reply: Reply, expected: Four) {
-    put_text(b"lists,");
+// A line of this name for one record over three cells.
+pub(crate) fn read_over(name: &[u8], given: Four, record: Record, reply: Reply, expected: Four) {
+    put_text(name);
     put_record(record);
-    let records = [record; 130];
-    read(10, small_given(), 3, records, 1, reply, expected);
+    read(10, given, 3, records_of(record, record), 1, reply, expected);
+}
+
+// A line for one over those at small places.
+pub(crate) fn read_one(record: Record, reply: Reply, expected: Four) {
+    read_over(b"lists,", small(), record, reply, expected);
 }
 
 // A line for two records that leave the cells as they were.
@@ -186,9 +196,7 @@ fn read_both(first: Record, second: Record, reply: Reply) {
     put_record(first);
     put_text(b",");
     put_record(second);
-    let mut records = [first; 130];
-    records[1] = second;
-    read(10, small_given(), 3, records, 2, reply, small_given());
+    read(10, small(), 3, records_of(first, second), 2, reply, small());
 }
 
 // A diff; a neg without cell 0, which keeps its ends, each in its one pattern; a neg with cell 0 as x, and one with it as y.
@@ -196,34 +204,36 @@ fn read_kinds() {
     let c0 = Interval::new(0, 9);
     let c1 = Interval::new(0x8000000000000005, 4);
     let c2 = Interval::new(0x8000000000000004, 6);
-    read_one(of_kind(1, 0, 1, 2), settled(2), small(c0, c1, c2));
+    read_one(of_kind(1, 0, 1, 2), settled(2), three(c0, c1, c2));
     let mirrored = Interval::new(0x8000000000000004, 5);
-    read_one(of_kind(2, 1, 2, 0), settled(2), small(c0, c1, mirrored));
+    read_one(of_kind(2, 1, 2, 0), settled(2), three(c0, c1, mirrored));
     let positive = Interval::new(0, 5);
     let negative = Interval::new(0x8000000000000005, 0);
     let unnamed = Interval::new(0x8000000000000007, 6);
-    let cut = small(positive, negative, unnamed);
+    let cut = three(positive, negative, unnamed);
     read_one(of_kind(2, 0, 1, 0), settled(2), cut);
     read_one(of_kind(2, 1, 0, 0), settled(2), cut);
 }
 
 // Refusal 4: a kind above 2, and a neg with a third number; before 5 of the same record, after 5 of an earlier one. The cells stay as they were.
 fn read_refused() {
-    read_one(of_kind(3, 0, 1, 2), refused(4, 0), small_given());
-    read_one(of_kind(2, 0, 1, 2), refused(4, 0), small_given());
-    read_one(of_kind(2, 3, 1, 2), refused(4, 0), small_given());
+    read_one(of_kind(3, 0, 1, 2), refused(4, 0), small());
+    read_one(of_kind(2, 0, 1, 2), refused(4, 0), small());
+    read_one(of_kind(2, 3, 1, 2), refused(4, 0), small());
     read_both(of_kind(1, 0, 1, 2), of_kind(3, 0, 1, 2), refused(4, 1));
     read_both(of_kind(2, 0, 3, 0), of_kind(3, 0, 1, 2), refused(5, 0));
 }
 
-// A neg of two positive cells, which has no solution.
-fn read_none() {
-    put_text(b"lists, positive cells,");
-    let record = of_kind(2, 0, 1, 0);
-    put_record(record);
-    let given = small(point(1), point(2), point(3));
-    let records = [record; 130];
-    read(10, given, 3, records, 1, no_triple(1, 0), given);
+// A line for a record that has no solution over three positive cells.
+pub(crate) fn read_none(record: Record) {
+    let given = three(point(1), point(2), point(3));
+    read_over(
+        b"lists, positive cells,",
+        given,
+        record,
+        no_triple(1, 0),
+        given,
+    );
 }
 
 // 01's sheets; of the two sums also its last trap: each sum of the first pass is cut exactly, and the second moves a cell of the first, so nothing is settled.
@@ -234,6 +244,6 @@ pub(crate) fn read_lists() {
     read_two_sums(5, stopped(5), 5, 5);
     read_two_sums(6, no_triple(6, 0), 0, 10);
     read_kinds();
-    read_none();
+    read_none(of_kind(2, 0, 1, 0));
     read_refused();
 }

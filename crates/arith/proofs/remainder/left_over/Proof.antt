@@ -38,15 +38,19 @@ parted c =
     let t = s .args .t .size in
     let l = c .before .take-away in
     let ok = s .pre .roundable in
+    let r = s .args .r in
+    let R = s .pre .rounds in
+    let lost = o .if1 .left in
     ⊎-elim
-    (λ w. inl (w .0 .taken, rw (w .2) (steps-past f t ok (s .args .r) (s .pre .rounds) (o .if1 .left) (l .result) (l .ensures) (w .0 .taken) (omega arith) (w .1 .result) (w .1 .ensures) (omega arith))))
-    (λ w. inr (w .0 .left, rw (w .1) (steps-short f t ok (s .args .r) (s .pre .rounds) (o .if1 .left) (l .result) (l .ensures) (w .0 .left))))
+    (λ w. inl (w .0 .taken, rw (w .2) (steps-past f t ok r R lost (l .result) (l .ensures) (w .0 .taken) (omega arith) (w .1 .result) (w .1 .ensures) (omega arith))))
+    (λ w. inr (w .0 .left, rw (w .1) (steps-short f t ok r R lost (l .result) (l .ensures) (w .0 .left))))
     (c .if2 .came)
 
 sub-sign : tie.Need-sub-sign
 sub-sign c =
-    let s = c .before .before .before .before .before .before .before .before in
-    elim (s .pre .sign) [ clear e ↦ omega arith | set e ↦ omega arith ]
+    let j = c .before .before .before in
+    let o = j .before .before .before .before in
+    elim (o .before .pre .sign) [ clear e ↦ omega arith | set e ↦ omega arith ]
 
 encode-requires : tie.Need-encode-requires
 encode-requires c κs =

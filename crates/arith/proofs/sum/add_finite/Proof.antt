@@ -10,25 +10,28 @@ use Rattle.arith.proofs.Sums.{matched}
 use Rattle.arith.proofs.sum.add_finite.Statement.{statement}
 use Rattle.arith.proofs.sum.add_finite.Tie as tie
 
-in-range : (c : tie.After-known-told) → let a = c .before .before .before .before .before .before .args in
-    IsSum (a .format) (ordinal (a .format) (a .x)) (ordinal (a .format) (a .a)) (c .before .before .before .add-signed .result) (Finite (c .before .tested .given .0 .0) (c .before .tested .given .0 .1 .0))
+in-range : (c : tie.After-known-told) → let s = c .before .before .before in
+    let a = s .before .before .before .args in
+    let v = c .before .tested .given .0 in
+    IsSum (a .format) (ordinal (a .format) (a .x)) (ordinal (a .format) (a .a)) (s .add-signed .result) (Finite (v .0) (v .1 .0))
 in-range c =
     let s = c .before .before .before in
     matched (s .before .before .from-pattern .ensures) (s .before .from-pattern2 .ensures) (c .before .tested .given .1) (s .add-signed .ensures)
 
 -- with what is left over
 whole : (c : tie.After-left-over) → let a = c .before .before .before .before .before .before .before .args in
-    AnswersWith (a .format) (ordinal (a .format) (a .x)) (ordinal (a .format) (a .a)) (Finite (c .before .before .tested .given .0 .0) (c .before .before .tested .given .0 .1 .0)) (c .left-over .result)
+    let v = c .before .before .tested .given .0 in
+    AnswersWith (a .format) (ordinal (a .format) (a .x)) (ordinal (a .format) (a .a)) (Finite (v .0) (v .1 .0)) (c .left-over .result)
 whole c = in-range (c .before) .answer (c .left-over .result) (c .left-over .ensures)
 
 left-over-requires : tie.Need-left-over-requires
 left-over-requires c κs = in-range c .rounded
 
 pattern-requires : tie.Need-pattern-requires
-pattern-requires c κs = (c .before .before .before .before .before .before .before .pre .sound, in-range (c .before) .within)
+pattern-requires c κs = let s = in-range (c .before) in (s .rounded .sound, s .within)
 
 pattern-requires-2 : tie.Need-pattern-requires-2
-pattern-requires-2 c κs = (c .before .before .before .before .before .before .before .before .pre .sound, whole (c .before) .finite)
+pattern-requires-2 c κs = (in-range (c .before .before) .rounded .sound, whole (c .before) .finite)
 
 returns : tie.Need-returns
 returns c =

@@ -13,16 +13,19 @@ add-result : tie.Need-add-result
 add-result c =
     let s = c .before .before .before in
     let ok = s .pre .0 in
-    elim (s .pre .1 .sign) [
-      | clear e ↦ omega (arith, ok .word, infinity-lt (s .args .format) ok, s .pre .1 .m)
-      | set e ↦ omega (arith, ok .word, infinity-lt (s .args .format) ok, s .pre .1 .m)
+    let z = s .pre .1 in
+    elim (z .sign) [
+      | clear e ↦ omega (arith, ok .word, infinity-lt (s .args .format) ok, z .m)
+      | set e ↦ omega (arith, ok .word, infinity-lt (s .args .format) ok, z .m)
     ]
 
 returns-2 : tie.Need-returns-2
 returns-2 c =
     let s = c .before .before .before in
     let F = s .args .format in
-    signed-pattern F (s .pre .0) (s .args .self) (s .pre .1 .sign) (c .before .if1 .left) (omega (arith, infinity-lt F (s .pre .0), s .pre .1 .m))
+    let ok = s .pre .0 in
+    let z = s .pre .1 in
+    signed-pattern F ok (s .args .self) (z .sign) (c .before .if1 .left) (omega (arith, infinity-lt F ok, z .m))
 
 pub pattern-spec : {M : Type 1} → statement M
 pattern-spec = tie.close (tie.spec returns add-result returns-2)
