@@ -4,11 +4,10 @@
 //! length of its intervals, of a run with its sums and passes.
 //!
 //! Usage: bench PROGRAM [EARLIER], the program `narrow` and an earlier build of it, beside which a pass of sums is timed too; where
-//! the earlier build's libraries are linked (bench/run), sums and narrowings are timed beside theirs, but for those with infinities,
-//! which it may refuse. All sides get the same input and must give the same answers. Each figure is the best of many rounds in which
-//! the sides take turns, but for the narrowings of a pass; the result buffers are not cleared between calls.
+//! the earlier build's libraries are linked (bench/run), sums and narrowings are timed beside theirs. All sides get the same
+//! input and must give the same answers. Each figure is the best of many rounds in which the sides take turns,
+//! but for the narrowings of a pass; the result buffers are not cleared between calls.
 
-#[allow(dead_code)]
 #[path = "../tests/common/cases.rs"]
 mod cases;
 #[cfg(earlier)]
@@ -91,12 +90,6 @@ fn cancellation<W: Width>(words: &mut Words) -> [Range; 3] {
     [x, a, cases::about_sum::<W>(words, x, a, 8)]
 }
 
-/// x and a from -inf to +inf, b wide or a few floats long, and finite.
-fn from_infinity<W: Width>(words: &mut Words) -> [Range; 3] {
-    let (all, middle) = (cases::all::<W>(), words.between(-W::LARGEST, W::LARGEST));
-    [all, all, if words.coin() { cases::wide::<W>(words) } else { cases::around::<W>(words, middle, 8) }]
-}
-
 /// The best figure of each side over many rounds. The sides take turns, so that all meet the same state of the machine.
 pub fn best<const N: usize>(rounds: usize, mut sides: [&mut dyn FnMut() -> f64; N]) -> [f64; N] {
     let mut best = [f64::MAX; N];
@@ -140,8 +133,7 @@ fn patterns<W: Width>(cases: usize, make: impl Fn(&mut Words) -> [Range; 3]) -> 
     (0..cases).map(|_| ends::patterns::<W>(make(&mut words))).collect()
 }
 
-/// Both entries and the baseline; what was timed, with its cases.
-fn narrowing<W: Width>(mix: &str, amount: Amount, make: impl Fn(&mut Words) -> [Range; 3]) -> (String, Vec<[u64; 6]>) {
+fn narrowing<W: Width>(mix: &str, amount: Amount, make: impl Fn(&mut Words) -> [Range; 3]) {
     let cases = patterns::<W>(amount.cases, make);
     for ends in &cases {
         let expected = answer(baseline::call, W::BITS, *ends);
@@ -159,12 +151,6 @@ fn narrowing<W: Width>(mix: &str, amount: Amount, make: impl Fn(&mut Words) -> [
     );
     let what = format!("narrowing, width {}, {mix}, {} cases", W::BITS, amount.cases);
     report(&what, &[("in integers", exact), ("fast", fast), ("galloping search", baseline)]);
-    (what, cases)
-}
-
-/// The same of finite intervals, beside an earlier build too where there is one.
-fn finite_narrowing<W: Width>(mix: &str, amount: Amount, make: impl Fn(&mut Words) -> [Range; 3]) {
-    let (what, cases) = narrowing::<W>(mix, amount, make);
     if let Some(earlier) = earlier::NARROW {
         builds::<W>(&what, amount, &cases, earlier);
     }
@@ -183,18 +169,17 @@ fn builds<W: Width>(what: &str, amount: Amount, cases: &[[u64; 6]], earlier: [Ca
     }
 }
 
-/// The three mixes of finite intervals, and intervals from -inf to +inf.
+/// The three mixes.
 fn narrowings<W: Width>(amount: Amount) {
-    finite_narrowing::<W>("wide intervals", amount, wide::<W>);
-    finite_narrowing::<W>("a few ulps", amount, few_ulps::<W>);
-    finite_narrowing::<W>("cancellation", amount, cancellation::<W>);
-    narrowing::<W>("x and a from -inf to +inf", amount, from_infinity::<W>);
+    narrowing::<W>("wide intervals", amount, wide::<W>);
+    narrowing::<W>("a few ulps", amount, few_ulps::<W>);
+    narrowing::<W>("cancellation", amount, cancellation::<W>);
 }
 
 /// By the length of the intervals.
 fn lengths<W: Width>() {
     for k in [0, 10, 20, 30, 40, 50, 60] {
-        finite_narrowing::<W>(&format!("up to 2^{k} + 1 floats"), FEW, |words| about::<W>(words, 1 << k));
+        narrowing::<W>(&format!("up to 2^{k} + 1 floats"), FEW, |words| about::<W>(words, 1 << k));
     }
 }
 

@@ -5,7 +5,7 @@
 //! A part of each sheet counts upward: each pass moves ends by a few floats, so a run makes all the passes that its limit
 //! allows. The time of a run of one pass is taken off, and with it the start of the program and the reading of the text.
 
-use crate::records::{Record, Standard};
+use crate::records::Record;
 use crate::{best, report, round, sheet, tazsmibor};
 use std::io::Write;
 use std::process::{Command, Stdio};
@@ -175,7 +175,7 @@ pub fn stopped(listing: &dyn Fn(&str) -> String, sheet: &Sheet, limit: usize) ->
 }
 
 fn reference(text: &str) -> String {
-    sheet::listing::<Standard>(text.as_bytes())
+    sheet::listing(text.as_bytes())
 }
 
 /// The listing of a run of all passes, by the program and by another, which must print the same.

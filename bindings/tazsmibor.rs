@@ -1,8 +1,8 @@
 //! The narrowing of one sum x + a = b for Rust programs on x86-64 Linux, over the C entries of Tazsmibor.
 //!
-//! `narrow` takes ranges of `f32` or `f64`, whose ends may be infinite, `entry` patterns and a buffer as C does. Both are safe: every
-//! call gets an answer, in every floating-point environment. `narrow_fast` and `entry_fast` answer the same sooner, in the default
-//! environment, which Rust code keeps to; include/tazsmibor_fast.h says what is at stake where a library in C has left it.
+//! `narrow` takes ranges of `f32` or `f64`, `entry` patterns and a buffer as C does. Both are safe: every call gets an answer, in
+//! every floating-point environment. `narrow_fast` and `entry_fast` answer the same sooner, in the default environment, which
+//! Rust code keeps to; include/tazsmibor_fast.h says what is at stake where a library in C has left it.
 //!
 //! Add this file as a module (rustc 1.82 or later, edition 2021 or later, `core` alone), build the libraries with
 //! `rt staticlib tazsmibor` and `rt staticlib tazsmibor_fast`, and link with `-L target/staticlib -l static=tazsmibor`, and with
@@ -41,13 +41,12 @@ unsafe extern "C" {
 /// What the narrowing of three ranges answers.
 #[derive(Clone, Debug, PartialEq)]
 pub enum Narrowing<F> {
-    /// From the least to the greatest x, a and b with x + a = b, the sum rounded to nearest even. Infinities are values like others;
-    /// opposite ones have no sum.
+    /// From the least to the greatest x, a and b with x + a = b, the sum rounded to nearest even.
     Ends { x: RangeInclusive<F>, a: RangeInclusive<F>, b: RangeInclusive<F> },
     /// No x, a and b of the ranges have x + a = b.
     NoSolution,
-    /// An end is a NaN.
-    NotANumber,
+    /// An end is an infinity or a NaN.
+    NotFinite,
     /// A low end lies above its high end.
     OutOfOrder,
 }
@@ -125,7 +124,7 @@ fn narrow_by<F: Float>(
     match answer {
         0 => Narrowing::Ends { x: end(0)..=end(1), a: end(2)..=end(3), b: end(4)..=end(5) },
         11 => Narrowing::NoSolution,
-        2 => Narrowing::NotANumber,
+        2 => Narrowing::NotFinite,
         3 => Narrowing::OutOfOrder,
         other => unreachable!("the width is known and there are 48 bytes: {other}"),
     }

@@ -15,19 +15,17 @@ extern "C" {
 enum {
     TAZSMIBOR_NARROWED = 0,
     TAZSMIBOR_UNKNOWN_WIDTH = 1, /* width is neither 32 nor 64 */
-    TAZSMIBOR_NOT_A_NUMBER = 2,  /* an end is a NaN, or has bits beyond width 32 */
+    TAZSMIBOR_NOT_FINITE = 2,    /* an end is no finite number of the width: an infinity, a NaN, or bits beyond width 32 */
     TAZSMIBOR_OUT_OF_ORDER = 3,  /* a low end lies above its high end, by place (0 and -0 are equal) */
     TAZSMIBOR_NO_SOLUTION = 11,  /* no x, a and b of the intervals have x + a = b */
     TAZSMIBOR_NO_ROOM = 13       /* length is below 48 */
 };
 
 /* Floats are given by their patterns: the bits of the format as a number, at width 32 in the low half. The place of a pattern
- * is its number without the sign bit, negated if the sign is set; the order of places is the order of the floats' values,
- * from -inf over all finite ones to +inf.
+ * is its number without the sign bit, negated if the sign is set; the order of places is the order of the floats' values.
  *
- * Takes three intervals, each by its low and its high end. Each end may be finite or an infinity. A solution is a value of each
- * interval, x, a and b, with x + a = b, the sum rounded. Infinities are values like others: a sum that is too large is an
- * infinity, and so is one with an infinite operand; but +inf and -inf have no sum, so no solution adds them.
+ * Takes three intervals, each by its low and its high end. A solution is a float of each interval, x, a and b, with
+ * x + a = b, the sum rounded.
  *
  * Answers 0 and writes six patterns to result[0] .. result[47], 8 bytes each, low byte first: the least and the greatest x
  * that stand in a solution, then those of a, then those of b. Zero is written with its sign clear. Later bytes are kept.

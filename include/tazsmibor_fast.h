@@ -1,5 +1,4 @@
 /* The narrowing of tazsmibor.h by the machine's floats: the same answers in less time, in the default floating-point environment.
- * Ends may be infinite here too, and the refusals are the same: 2 is for a NaN, or bits beyond width 32.
  * Link with libtazsmibor_fast.a, which `rt staticlib tazsmibor_fast` builds: code for x86-64 Linux. */
 #ifndef TAZSMIBOR_FAST_H
 #define TAZSMIBOR_FAST_H

@@ -40,10 +40,6 @@ macro_rules! cases {
     ($float:ident) => {{
         let all = || $float::MIN..=$float::MAX;
         let (one, ulp): (RangeInclusive<$float>, $float) = (1.0..=1.0, $float::EPSILON);
-        let (largest, infinity) = ($float::MAX, $float::INFINITY);
-        let half_step = (2.0 as $float).powi($float::MAX_EXP - 1) * ulp / 2.0;
-        let point = |value: $float| value..=value;
-        let numbers = || -infinity..=infinity;
         let ends = |x, a, b| Narrowing::Ends { x, a, b };
         let cases: Vec<Case<$float>> = vec![
             // Below 1 floats are twice as dense, so half an ulp down is half as far as half an ulp up.
@@ -51,25 +47,9 @@ macro_rules! cases {
             ("b alone narrowed", [1.0..=2.0, 1.0..=2.0, 1.0..=4.0], ends(1.0..=2.0, 1.0..=2.0, 2.0..=4.0)),
             ("x and a narrowed", [0.0..=9.0, 0.25..=5.0, one.clone()], ends(0.0..=0.75 + ulp / 2.0, 0.25..=1.0, one.clone())),
             ("nothing reaches", [one.clone(), one.clone(), one.clone()], Narrowing::NoSolution),
-            ("all numbers", [numbers(), numbers(), numbers()], ends(numbers(), numbers(), numbers())),
-            ("infinities cut off", [numbers(), one.clone(), one.clone()], ends(-ulp / 4.0..=ulp / 2.0, one.clone(), one.clone())),
-            // Half the last step before infinity is the least that takes the largest float there.
-            (
-                "an infinite sum",
-                [0.0..=largest, point(largest), point(infinity)],
-                ends(half_step..=largest, point(largest), point(infinity)),
-            ),
-            (
-                "an infinite operand",
-                [point(-infinity), numbers(), numbers()],
-                ends(point(-infinity), -infinity..=largest, point(-infinity)),
-            ),
-            ("opposite infinities", [point(infinity), point(-infinity), numbers()], Narrowing::NoSolution),
-            ("infinity and 1", [all(), point(infinity), one.clone()], Narrowing::NoSolution),
-            ("NaN", [all(), one.clone(), 1.0..=$float::NAN], Narrowing::NotANumber),
-            ("NaN and infinity", [$float::NAN..=infinity, one.clone(), one.clone()], Narrowing::NotANumber),
+            ("infinity", [all(), $float::INFINITY..=$float::INFINITY, one.clone()], Narrowing::NotFinite),
+            ("NaN", [all(), one.clone(), 1.0..=$float::NAN], Narrowing::NotFinite),
             ("low above high", [all(), 2.0..=1.0, one.clone()], Narrowing::OutOfOrder),
-            ("infinity above the largest", [infinity..=largest, one.clone(), one.clone()], Narrowing::OutOfOrder),
         ];
         cases
     }};

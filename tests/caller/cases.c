@@ -11,22 +11,22 @@ static uint64_t word(uint64_t *state)
     return z ^ (z >> 31);
 }
 
-/* A width's fraction bits and infinity's place. A place is a pattern without its sign, negated where that is set. */
+/* A width's fraction bits and its largest finite place. A place is a pattern without its sign, negated where that is set. */
 struct format {
     int fraction;
-    int64_t infinity;
+    int64_t largest;
 };
 
 static struct format format_of(uint64_t width)
 {
-    struct format single = { 23, 0x7F800000 }, twice = { 52, 0x7FF0000000000000 };
+    struct format single = { 23, 0x7F7FFFFF }, twice = { 52, 0x7FEFFFFFFFFFFFFF };
     return width == 32 ? single : twice;
 }
 
-/* The place from -inf to +inf that is nearest a number. */
+/* The finite place nearest a number. */
 static int64_t held(struct format f, __int128 place)
 {
-    return place < -f.infinity ? -f.infinity : place > f.infinity ? f.infinity : (int64_t)place;
+    return place < -f.largest ? -f.largest : place > f.largest ? f.largest : (int64_t)place;
 }
 
 static uint64_t pattern(uint64_t width, int64_t place)
@@ -40,7 +40,7 @@ static int64_t place(uint64_t width, uint64_t pattern)
     return pattern & sign ? -(int64_t)(pattern & (sign - 1)) : (int64_t)pattern;
 }
 
-/* The hardware's sum of two places; a NaN is beyond the infinities. */
+/* The hardware's sum of two places; an infinity is next to the largest. */
 static int64_t sum(uint64_t width, int64_t p, int64_t q)
 {
     uint64_t x = pattern(width, p), a = pattern(width, q), b = 0;
@@ -60,16 +60,15 @@ static int64_t sum(uint64_t width, int64_t p, int64_t q)
     return place(width, b);
 }
 
-/* A place that is subnormal, near a power of two, near infinity, within three binades of it, or anywhere. */
+/* A place that is subnormal, near a power of two, near the largest, or anywhere. */
 static int64_t middle(struct format f, uint64_t *state)
 {
     uint64_t w = word(state);
-    int64_t any = (int64_t)((w >> 4) % (uint64_t)f.infinity), binade = (int64_t)1 << f.fraction, size;
-    switch (word(state) % 5) {
+    int64_t any = (int64_t)((w >> 4) % (uint64_t)f.largest), binade = (int64_t)1 << f.fraction, size;
+    switch (word(state) % 4) {
     case 0: size = any % (2 * binade); break;
     case 1: size = any / binade * binade + (int64_t)(w % 9) - 4; break;
-    case 2: size = f.infinity - any % (3 * binade); break;
-    case 3: size = f.infinity - any % 5; break;
+    case 2: size = f.largest - any % (3 * binade); break;
     default: size = any; break;
     }
     return held(f, word(state) % 2 ? size : -size);
@@ -94,16 +93,6 @@ static void around(uint64_t width, struct format f, __int128 middle, uint64_t *s
     ends[1] = pattern(width, held(f, middle + (__int128)(word(state) % most)));
 }
 
-/* Moves an end of an interval to the infinity beyond it, or the whole interval there. */
-static void stretch(uint64_t width, struct format f, uint64_t *state, uint64_t ends[2])
-{
-    uint64_t which = word(state) % 4;
-    if (which != 0)
-        ends[1] = pattern(width, f.infinity);
-    if (which != 1)
-        ends[0] = pattern(width, which == 2 ? f.infinity : -f.infinity);
-}
-
 struct call call_at(size_t i)
 {
     uint64_t state = i;
@@ -114,20 +103,9 @@ struct call call_at(size_t i)
     around(c.width, f, x, &state, c.ends);
     around(c.width, f, a, &state, c.ends + 2);
     around(c.width, f, (__int128)sum(c.width, x, a) + off, &state, c.ends + 4);
-    if (word(&state) % 4 == 0)
-        stretch(c.width, f, &state, c.ends + 2 * (word(&state) % 3));
     if (word(&state) % 32 == 0)
         c.ends[word(&state) % 6] = word(&state) >> (word(&state) % 2 ? 0 : 64 - c.width);
     return c;
-}
-
-int has_infinite_end(const struct call *c)
-{
-    uint64_t sign = (uint64_t)1 << (c->width - 1);
-    for (int i = 0; i < 6; i++)
-        if ((c->ends[i] & ~sign) == (uint64_t)format_of(c->width).infinity)
-            return 1;
-    return 0;
 }
 
 struct answer answer_of(entry *f, const struct call *c)

@@ -1,5 +1,4 @@
-/* Calls of the narrowing: intervals placed where rounding, subnormals, overflow and infinities matter, and now and then any word as
- * an end. */
+/* Calls of the narrowing: intervals placed where rounding, subnormals and overflow matter, and now and then any word as an end. */
 #ifndef CASES_H
 #define CASES_H
 
@@ -24,9 +23,6 @@ enum { CALLS = 40000 };
 
 /* The i-th call, for any i below CALLS, both widths in turn. Made in the default floating-point environment. */
 struct call call_at(size_t i);
-
-/* Whether an end of a call is an infinity. */
-int has_infinite_end(const struct call *c);
 
 /* One call of an entry on a buffer of 56 bytes, filled before. */
 struct answer answer_of(entry *f, const struct call *c);

@@ -1,4 +1,4 @@
-//! Intervals: short ones placed everywhere, wide ones, and such with infinite ends.
+//! Intervals: short ones placed everywhere, and wide ones.
 
 use crate::floats::{Place, Range, Width};
 use crate::words::Words;
@@ -10,11 +10,6 @@ pub const PLACEMENTS: [&str; 8] =
 /// All finite floats.
 pub fn finite<W: Width>() -> Range {
     Range { low: -W::LARGEST, high: W::LARGEST }
-}
-
-/// All numbers.
-pub fn all<W: Width>() -> Range {
-    Range { low: -W::INFINITY, high: W::INFINITY }
 }
 
 /// The place of 2^k times the smallest float.
@@ -66,22 +61,12 @@ pub fn middles<W: Width>(words: &mut Words, placement: &str) -> (Place, Place) {
     }
 }
 
-/// A range of at most `most` + 1 places, none beyond `end`, with the middle in it or near it.
-fn around_within(words: &mut Words, middle: Place, most: i64, end: Place) -> Range {
-    let length = words.between(0, most);
-    let low = middle.clamp(-end, end) - words.between(0, length);
-    let low = low.clamp(-end, end - length);
-    Range { low, high: low + length }
-}
-
-/// A range of at most `most` + 1 finite floats with the middle in it or near it.
+/// A range of at most `most` + 1 floats with the middle in it or near it.
 pub fn around<W: Width>(words: &mut Words, middle: Place, most: i64) -> Range {
-    around_within(words, middle, most, W::LARGEST)
-}
-
-/// A range of at most `most` + 1 numbers, infinities among them, with the middle in it or near it.
-pub fn numbers_around<W: Width>(words: &mut Words, middle: Place, most: i64) -> Range {
-    around_within(words, middle, most, W::INFINITY)
+    let length = words.between(0, most);
+    let low = middle.clamp(-W::LARGEST, W::LARGEST) - words.between(0, length);
+    let low = low.clamp(-W::LARGEST, W::LARGEST - length);
+    Range { low, high: low + length }
 }
 
 /// A range for b: about a sum of two of the operands, now and then with one end far out.
@@ -117,35 +102,4 @@ pub fn opposite_binades<W: Width>(words: &mut Words) -> (Range, Range) {
     let l = (k + words.between(-3, 3)).clamp(0, top::<W>());
     let binade = |k: i64| Range { low: power::<W>(k), high: power::<W>(k + 1) };
     if words.coin() { (binade(k), binade(l).mirror()) } else { (binade(k).mirror(), binade(l)) }
-}
-
-/// The range with one end at an infinity or both, an infinity alone, or the range as it is.
-pub fn stretched<W: Width>(words: &mut Words, range: Range) -> Range {
-    let infinity = signed(words, W::INFINITY);
-    match words.below(8) {
-        0 => all::<W>(),
-        1 => Range { low: infinity, high: infinity },
-        2 | 3 => Range { low: -W::INFINITY, ..range },
-        4 | 5 => Range { high: W::INFINITY, ..range },
-        _ => range,
-    }
-}
-
-/// A place at an end of the ladder: an infinity, or a few places before it.
-pub fn outermost<W: Width>(words: &mut Words) -> Place {
-    let place = W::INFINITY - words.pick(&[0, 0, 1, 2, 8]);
-    signed(words, place)
-}
-
-/// Two places for the middles of the operands' ranges, one at an end of the ladder, the other there too, about half the last step
-/// before it or anywhere.
-pub fn outer_middles<W: Width>(words: &mut Words) -> (Place, Place) {
-    let outer = outermost::<W>(words);
-    let half = half_step::<W>(W::LARGEST) + words.between(-2, 2);
-    let other = match words.below(4) {
-        0 => outermost::<W>(words),
-        1 => words.between(-W::INFINITY, W::INFINITY),
-        _ => signed(words, half),
-    };
-    if words.coin() { (outer, other) } else { (other, outer) }
 }

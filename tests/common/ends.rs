@@ -7,7 +7,7 @@ pub fn patterns<W: Width>([x, a, b]: [Range; 3]) -> [u64; 6] {
     [x.low, x.high, a.low, a.high, b.low, b.high].map(W::pattern)
 }
 
-/// The ranges, or the refusal's number: 2 for an end that is no number of the width, 3 for ends out of order.
+/// The ranges, or the refusal's number: 2 for an end that is not finite, 3 for ends out of order.
 pub fn ranges<W: Width>(ends: [u64; 6]) -> Result<[Range; 3], u64> {
     let mut places = [0; 6];
     for (place, end) in places.iter_mut().zip(ends) {

@@ -1,32 +1,31 @@
 //! The floats of both widths by their places, over the hardware's own floats.
 //!
 //! A pattern without its sign bit is a number m; its place is m, or -m with the sign set. The infinities have the places
-//! next to the largest finite ones and are the ends of the ladder: finite floats and infinities are the numbers.
+//! next to the largest finite ones, so a sum that is too large is a place like the others, beyond `LARGEST`.
 
 pub type Place = i64;
 
 pub trait Width {
-    /// Bits of the width, fraction bits, the largest finite place, and infinity's.
+    /// Bits of the width, fraction bits, and the largest finite place.
     const BITS: u64;
     const FRACTION: u32;
     const LARGEST: Place;
-    const INFINITY: Place = Self::LARGEST + 1;
 
-    /// The hardware's sum of two numbers. That of opposite infinities is a NaN, whose place lies beyond infinity's: no range has it.
+    /// The hardware's sum of two finite floats.
     fn sum(x: Place, a: Place) -> Place;
 
-    /// The pattern of a number's place; zero with its sign clear.
+    /// The pattern of a finite place; zero with its sign clear.
     fn pattern(place: Place) -> u64 {
         let sign = if place < 0 { 1 << (Self::BITS - 1) } else { 0 };
         sign | place.unsigned_abs()
     }
 
-    /// The place of a number's pattern; none for a NaN, and for one with bits beyond the width.
+    /// The place of a finite pattern; none for others, and for one with bits beyond the width.
     fn place(pattern: u64) -> Option<Place> {
         let sign = 1u64 << (Self::BITS - 1);
         let size = pattern & (sign - 1);
         let beyond = pattern & !(sign | (sign - 1));
-        if beyond != 0 || size > Self::INFINITY as u64 {
+        if beyond != 0 || size > Self::LARGEST as u64 {
             return None;
         }
         Some(if pattern & sign != 0 { -(size as i64) } else { size as i64 })
@@ -59,7 +58,7 @@ macro_rules! width {
 width!(Binary32, 32, f32);
 width!(Binary64, 64, f64);
 
-/// The numbers from low to high, by place.
+/// The floats from low to high, by place.
 #[derive(Clone, Copy, PartialEq, Eq, Debug)]
 pub struct Range {
     pub low: Place,

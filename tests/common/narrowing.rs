@@ -1,5 +1,5 @@
-//! Narrowing of one sum: of finite operands by galloping search over the hardware's addition, of infinite ones by the standard's
-//! rules for these. Not verified; the differential test holds it to brute force, as it does the library.
+//! Narrowing of one sum by galloping search over the hardware's addition. Not verified; the differential test holds it to
+//! brute force, as it does the library.
 
 use crate::floats::{Place, Range, Width};
 
@@ -9,17 +9,6 @@ pub struct Narrowed {
     pub x: Range,
     pub a: Range,
     pub b: Range,
-}
-
-impl Narrowed {
-    pub fn join(self, other: Narrowed) -> Narrowed {
-        Narrowed { x: self.x.join(other.x), a: self.a.join(other.a), b: self.b.join(other.b) }
-    }
-
-    /// With the operands exchanged.
-    pub fn swap(self) -> Narrowed {
-        Narrowed { x: self.a, a: self.x, b: self.b }
-    }
 }
 
 /// From a place where the test holds, down by doubled steps: a place where it fails and one above it where it holds, or the
@@ -147,25 +136,11 @@ fn least_b<W: Width>(x: Range, a: Range, b: Range) -> Place {
     high
 }
 
-/// The three ranges narrowed by the triples of finite x and a, or none; b may have infinite ends.
-pub fn narrow_finite<W: Width>(x: Range, a: Range, b: Range) -> Option<Narrowed> {
+/// The three ranges narrowed, or none.
+pub fn narrow<W: Width>(x: Range, a: Range, b: Range) -> Option<Narrowed> {
     let xs = extent::<W>(x, a, b)?;
     let ys = extent::<W>(a, x, b)?;
     let low = least_b::<W>(xs, ys, b);
     let high = -least_b::<W>(xs.mirror(), ys.mirror(), b.mirror());
     Some(Narrowed { x: xs, a: ys, b: Range { low, high } })
-}
-
-/// The triples in which x is this infinity: so is b, and a is anything but the opposite one.
-fn at_infinity<W: Width>(infinity: Place, x: Range, a: Range, b: Range) -> Option<Narrowed> {
-    let (point, partners) = (Range::point(infinity), a.partners::<W>(infinity));
-    let any = x.contains(infinity) && b.contains(infinity) && !partners.is_empty();
-    any.then_some(Narrowed { x: point, a: partners, b: point })
-}
-
-/// The three ranges narrowed, or none.
-pub fn narrow<W: Width>(x: Range, a: Range, b: Range) -> Option<Narrowed> {
-    let finite = narrow_finite::<W>(x.finite::<W>(), a.finite::<W>(), b);
-    let with = |i: Place| [at_infinity::<W>(i, x, a, b), at_infinity::<W>(i, a, x, b).map(Narrowed::swap)];
-    b.infinities::<W>().flat_map(with).flatten().chain(finite).reduce(Narrowed::join)
 }

@@ -1,7 +1,6 @@
-//! Ranges of places: of one place alone, what one contains, the least that has two, a part of one, and the search for where a test
-//! begins to hold. A range whose low end lies above its high end is empty.
+//! Ranges of places: of one place alone, what one contains, the least that has two, and the search for where a test begins to hold.
 
-use crate::floats::{Place, Range, Width};
+use crate::floats::{Place, Range};
 
 impl Range {
     pub fn point(place: Place) -> Range {
@@ -14,26 +13,6 @@ impl Range {
 
     pub fn join(self, other: Range) -> Range {
         Range { low: self.low.min(other.low), high: self.high.max(other.high) }
-    }
-
-    pub fn is_empty(self) -> bool {
-        self.low > self.high
-    }
-
-    /// Its finite floats.
-    pub fn finite<W: Width>(self) -> Range {
-        Range { low: self.low.max(-W::LARGEST), high: self.high.min(W::LARGEST) }
-    }
-
-    /// What of it has a sum with an infinity: all but the opposite one.
-    pub fn partners<W: Width>(self, infinity: Place) -> Range {
-        let Range { low, high } = self.finite::<W>();
-        if infinity > 0 { Range { low, ..self } } else { Range { high, ..self } }
-    }
-
-    /// Which infinities it has.
-    pub fn infinities<W: Width>(self) -> impl Iterator<Item = Place> {
-        [W::INFINITY, -W::INFINITY].into_iter().filter(move |infinity| self.contains(*infinity))
     }
 }
 

@@ -1,7 +1,7 @@
 //! Records by the cells they name, and the narrowing of cells by a record: one value for a cell, wherever the record names it.
 
 use crate::floats::{Range, Width};
-use crate::narrowing::{Narrowed, narrow};
+use crate::narrowing::narrow;
 use crate::repeated::{absorbing, doubled, halved};
 
 /// x + a = b, x + (-a) = b, y = -x.
@@ -22,66 +22,29 @@ impl Record {
 }
 
 /// Zero alone, where the range has it.
-pub fn zero(range: Range) -> Option<Range> {
+fn zero(range: Range) -> Option<Range> {
     range.contains(0).then_some(Range::point(0))
 }
 
-/// What is left of ranges under rules that say which values there are. What x + x = b, x - a = a and y = -x leave is the same under
-/// all of them.
-pub trait Rules {
-    /// By x + a = b.
-    fn sum<W: Width>(x: Range, a: Range, b: Range) -> Option<Narrowed>;
-    /// By x + a = x.
-    fn absorbing<W: Width>(x: Range, a: Range) -> Option<[Range; 2]>;
-    /// By x + x = x.
-    fn doubles_itself<W: Width>(x: Range) -> Option<Range>;
-    /// Those x with x - x = 0.
-    fn cancels<W: Width>(x: Range) -> Option<Range>;
-}
-
-/// The standard's rules: infinities are values.
-pub struct Standard;
-
-impl Rules for Standard {
-    fn sum<W: Width>(x: Range, a: Range, b: Range) -> Option<Narrowed> {
-        narrow::<W>(x, a, b)
-    }
-
-    fn absorbing<W: Width>(x: Range, a: Range) -> Option<[Range; 2]> {
-        absorbing::<W>(x, a)
-    }
-
-    /// Zero and the infinities.
-    fn doubles_itself<W: Width>(x: Range) -> Option<Range> {
-        x.infinities::<W>().map(Range::point).chain(zero(x)).reduce(Range::join)
-    }
-
-    /// Every finite one.
-    fn cancels<W: Width>(x: Range) -> Option<Range> {
-        let finite = x.finite::<W>();
-        (!finite.is_empty()).then_some(finite)
-    }
-}
-
 /// The ranges p, q and r of cells x, a and b, by x + a = b.
-fn sum<R: Rules, W: Width>([x, a, b]: [usize; 3], [p, q, r]: [Range; 3]) -> Option<[Range; 3]> {
+fn sum<W: Width>([x, a, b]: [usize; 3], [p, q, r]: [Range; 3]) -> Option<[Range; 3]> {
     match [x == a, a == b, x == b] {
-        [true, true, true] => R::doubles_itself::<W>(p).map(|p| [p; 3]),
+        [true, true, true] => zero(p).map(|p| [p; 3]),
         [true, ..] => doubled::<W>(p, r).map(|[p, r]| [p, p, r]),
-        [_, true, _] => R::absorbing::<W>(q, p).map(|[q, p]| [p, q, q]),
-        [.., true] => R::absorbing::<W>(p, q).map(|[p, q]| [p, q, p]),
-        _ => R::sum::<W>(p, q, r).map(|n| [n.x, n.a, n.b]),
+        [_, true, _] => absorbing::<W>(q, p).map(|[q, p]| [p, q, q]),
+        [.., true] => absorbing::<W>(p, q).map(|[p, q]| [p, q, p]),
+        _ => narrow::<W>(p, q, r).map(|n| [n.x, n.a, n.b]),
     }
 }
 
 /// The same by x + (-a) = b.
-fn diff<R: Rules, W: Width>([x, a, b]: [usize; 3], [p, q, r]: [Range; 3]) -> Option<[Range; 3]> {
+fn diff<W: Width>([x, a, b]: [usize; 3], [p, q, r]: [Range; 3]) -> Option<[Range; 3]> {
     match [x == a, a == b, x == b] {
         [true, true, true] => zero(p).map(|p| [p; 3]),
-        [true, ..] => R::cancels::<W>(p).zip(zero(r)).map(|(p, r)| [p, p, r]),
+        [true, ..] => zero(r).map(|r| [p, p, r]),
         [_, true, _] => halved::<W>(q, p).map(|[q, p]| [p, q, q]),
-        [.., true] => R::absorbing::<W>(p, q.mirror()).map(|[p, q]| [p, q.mirror(), p]),
-        _ => R::sum::<W>(p, q.mirror(), r).map(|n| [n.x, n.a.mirror(), n.b]),
+        [.., true] => absorbing::<W>(p, q.mirror()).map(|[p, q]| [p, q.mirror(), p]),
+        _ => narrow::<W>(p, q.mirror(), r).map(|n| [n.x, n.a.mirror(), n.b]),
     }
 }
 
@@ -106,10 +69,10 @@ fn put<const N: usize>(
 }
 
 /// The cells of a record get the least and greatest values in its solutions; none if it has no solution.
-pub fn narrow_record<R: Rules, W: Width>(cells: &mut [Range], record: Record) -> Option<()> {
+pub fn narrow_record<W: Width>(cells: &mut [Range], record: Record) -> Option<()> {
     match record {
-        Record::Sum(named) => put(cells, named, sum::<R, W>),
-        Record::Diff(named) => put(cells, named, diff::<R, W>),
+        Record::Sum(named) => put(cells, named, sum::<W>),
+        Record::Diff(named) => put(cells, named, diff::<W>),
         Record::Neg(named) => put(cells, named, neg),
     }
 }

@@ -1,33 +1,28 @@
 //! What a sum or a difference asks of two cells, one of which it names twice: x + x = b, x - a = a and x + a = x, narrowed by search
-//! over the hardware's addition, and x + a = x of an infinite x by the standard's rules for these. Not verified; the test of repeated
-//! cells holds it to brute force, as it does the library.
+//! over the hardware's addition. Not verified; the test of repeated cells holds it to brute force, as it does the library.
 
 use crate::floats::{Place, Range, Width};
 use crate::narrowing::least_operand;
 use crate::ranges::bisect;
 
-/// x and b of x + x = b. The sum grows with x, an infinity is its own double, and so the x that fit are a range.
+/// x and b of x + x = b. The sum grows with x, so the x that fit are a range.
 pub fn doubled<W: Width>(x: Range, b: Range) -> Option<[Range; 2]> {
     let low = bisect(x, |x| b.low <= W::sum(x, x));
     let high = bisect(x, |x| b.high < W::sum(x, x)) - 1;
     (low <= high).then(|| [Range { low, high }, Range { low: W::sum(low, low), high: W::sum(high, high) }])
 }
 
-/// The finite x with x - a = a: those from the least that reach a to the greatest that do not pass it. They have 2a among them; if
-/// that is too large, there are none.
+/// The x with x - a = a: those from the least that reach a to the greatest that do not pass it. They have 2a among them; if that
+/// is too large, there are none.
 fn twice<W: Width>(a: Place) -> Range {
     let all = Range { low: -W::LARGEST, high: W::LARGEST };
     let least = |a: Place| least_operand::<W>(-a, a, all).unwrap_or(W::LARGEST + 1);
     Range { low: least(a), high: -least(-a) }
 }
 
-/// a and x of x - a = a. Both are finite: of an infinite one the difference is the other infinity or none. The larger a is, the more
-/// is taken off and the more is to be left: its x are above those of smaller a, and the a that fit are a range.
+/// a and x of x - a = a. The larger a is, the more is taken off and the more is to be left: its x are above those of smaller a, and
+/// the a that fit are a range.
 pub fn halved<W: Width>(a: Range, x: Range) -> Option<[Range; 2]> {
-    let (a, x) = (a.finite::<W>(), x.finite::<W>());
-    if a.is_empty() || x.is_empty() {
-        return None;
-    }
     let low = bisect(a, |a| x.low <= twice::<W>(a).high);
     let high = bisect(a, |a| x.high < twice::<W>(a).low) - 1;
     let xs = || Range { low: x.low.max(twice::<W>(low).low), high: x.high.min(twice::<W>(high).high) };
@@ -59,22 +54,12 @@ fn farthest<W: Width>(xs: &[Place], nearest: Place, end: Place) -> Place {
     nearest + sign * xs.iter().fold(0, farther)
 }
 
-/// Finite x and a of x + a = x. The sum grows with a, so what x absorbs is a range that has zero in it; and x fits if it absorbs that
-/// a which is nearest to zero.
-pub fn absorbing_finite<W: Width>(x: Range, a: Range) -> Option<[Range; 2]> {
-    if a.is_empty() {
-        return None;
-    }
+/// x and a of x + a = x. The sum grows with a, so what x absorbs is a range that has zero in it; and x fits if it absorbs that a
+/// which is nearest to zero.
+pub fn absorbing<W: Width>(x: Range, a: Range) -> Option<[Range; 2]> {
     let nearest = Place::clamp(0, a.low, a.high);
     let xs: Vec<Place> = samples::<W>(x).filter(|x| absorbs::<W>(*x, nearest)).collect();
     let hull = xs.iter().map(|x| Range::point(*x)).reduce(Range::join)?;
     let [low, high] = [a.low, a.high].map(|end| farthest::<W>(&xs, nearest, end));
     Some([hull, Range { low, high }])
-}
-
-/// x and a of x + a = x: a finite x absorbs finite a alone, an infinite one all that has a sum with it.
-pub fn absorbing<W: Width>(x: Range, a: Range) -> Option<[Range; 2]> {
-    let finite = absorbing_finite::<W>(x.finite::<W>(), a.finite::<W>());
-    let infinite = x.infinities::<W>().map(|x| [Range::point(x), a.partners::<W>(x)]).filter(|[_, a]| !a.is_empty());
-    infinite.chain(finite).reduce(|[x, a], [y, b]| [x.join(y), a.join(b)])
 }

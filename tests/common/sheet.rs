@@ -1,16 +1,16 @@
 //! From sheet text to its listing, written from the requirement alone: the reading, the run and the printed lines.
 
 use crate::floats::{Binary32, Binary64, Range, Width};
-use crate::records::{Record, Rules, narrow_record};
+use crate::records::{Record, narrow_record};
 
 /// A refusal: its number and line.
 type Refusal = (u32, usize);
 
-pub struct Sheet {
-    pub width: u32,
-    pub limit: u32,
-    pub cells: Vec<Range>,
-    pub records: Vec<Record>,
+struct Sheet {
+    width: u32,
+    limit: u32,
+    cells: Vec<Range>,
+    records: Vec<Record>,
 }
 
 /// A decimal numeral of 1 to 5 digits, with no leading zero but in `0`.
@@ -89,7 +89,7 @@ impl Sheet {
 }
 
 /// The whole text: 8, then line by line. A last line without its line feed is malformed.
-pub fn read(text: &[u8]) -> Result<Sheet, Refusal> {
+fn read(text: &[u8]) -> Result<Sheet, Refusal> {
     if text.len() > 8192 {
         return Err((8, 0));
     }
@@ -117,12 +117,12 @@ enum Outcome {
 }
 
 /// The run, as the requirement writes it out.
-fn run<R: Rules, W: Width>(sheet: &mut Sheet) -> Outcome {
+fn run<W: Width>(sheet: &mut Sheet) -> Outcome {
     let mut pass = 1;
     loop {
         let before = sheet.cells.clone();
         for (i, record) in sheet.records.iter().enumerate() {
-            if narrow_record::<R, W>(&mut sheet.cells, *record).is_none() {
+            if narrow_record::<W>(&mut sheet.cells, *record).is_none() {
                 return Outcome::NoSolution(pass, i);
             }
         }
@@ -145,19 +145,19 @@ fn cell_lines<W: Width>(cells: &[Range]) -> String {
     cells.iter().enumerate().map(line).collect()
 }
 
-fn listing_of<R: Rules, W: Width>(mut sheet: Sheet) -> String {
-    match run::<R, W>(&mut sheet) {
+fn listing_of<W: Width>(mut sheet: Sheet) -> String {
+    match run::<W>(&mut sheet) {
         Outcome::Settled(p) => format!("settled\t{p}\n{}", cell_lines::<W>(&sheet.cells)),
         Outcome::Stopped(p) => format!("stopped\t{p}\n{}", cell_lines::<W>(&sheet.cells)),
         Outcome::NoSolution(p, i) => format!("none\t{p}\t{i}\n"),
     }
 }
 
-/// What the program prints for a text, under some rules.
-pub fn listing<R: Rules>(text: &[u8]) -> String {
+/// What the program prints for a text.
+pub fn listing(text: &[u8]) -> String {
     match read(text) {
         Err((number, line)) => format!("refused\t{number}\t{line}\n"),
-        Ok(sheet) if sheet.width == 32 => listing_of::<R, Binary32>(sheet),
-        Ok(sheet) => listing_of::<R, Binary64>(sheet),
+        Ok(sheet) if sheet.width == 32 => listing_of::<Binary32>(sheet),
+        Ok(sheet) => listing_of::<Binary64>(sheet),
     }
 }

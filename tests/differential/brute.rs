@@ -1,5 +1,4 @@
-//! Narrowing by trying everything: every pair of operands, or every operand and sum. Infinities are tried like other numbers; two
-//! that are opposite have a NaN for their sum, which no range has.
+//! Narrowing by trying everything: every pair of operands, or every operand and sum.
 
 use crate::floats::{Place, Range, Width};
 use crate::narrowing::Narrowed;
@@ -10,8 +9,11 @@ struct Hull(Option<Narrowed>);
 
 impl Hull {
     fn add(&mut self, x: Range, a: Place, b: Place) {
-        let found = Narrowed { x, a: Range::point(a), b: Range::point(b) };
-        self.0 = Some(self.0.map_or(found, |n| n.join(found)));
+        let (a, b) = (Range::point(a), Range::point(b));
+        self.0 = Some(match self.0 {
+            None => Narrowed { x, a, b },
+            Some(n) => Narrowed { x: n.x.join(x), a: n.a.join(a), b: n.b.join(b) },
+        });
     }
 }
 
@@ -29,11 +31,10 @@ pub fn by_operands<W: Width>(x: Range, a: Range, b: Range) -> Option<Narrowed> {
     hull.0
 }
 
-/// Every a with every b: a and b are short, x is anything. A sum grows with x, where there is one, so the x that give b are a range.
+/// Every a with every b: a and b are short, x is anything. A sum grows with x, so the x that give b are a range.
 pub fn by_sums<W: Width>(x: Range, a: Range, b: Range) -> Option<Narrowed> {
     let mut hull = Hull(None);
     for q in a.low..=a.high {
-        let x = if q.abs() == W::INFINITY { x.partners::<W>(q) } else { x };
         for s in b.low..=b.high {
             let low = bisect(x, |p| s <= W::sum(p, q));
             let high = bisect(x, |p| s < W::sum(p, q)) - 1;

@@ -17,8 +17,8 @@ pub fn entry(width: u64, ends: [u64; 6], result: &mut [u8]) -> u64 {
     answer
 }
 
-/// The narrowed ranges in the first 48 bytes: six ends, 8 bytes each, low byte first. An end that is no number, out of order or in
-/// another than its one pattern is a failure.
+/// The narrowed ranges in the first 48 bytes: six ends, 8 bytes each, low byte first. An end that is not finite, out of order or
+/// in another than its one pattern is a failure.
 pub fn narrowed_in<W: Width>(result: &[u8]) -> Result<Narrowed, String> {
     let written = std::array::from_fn(|i| u64::from_le_bytes(result[8 * i..8 * i + 8].try_into().unwrap()));
     match ends::ranges::<W>(written) {

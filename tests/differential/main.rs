@@ -1,8 +1,6 @@
 //! The narrowing of both C entries at both widths: short ranges against brute force over the hardware's addition, wide ones and
-//! random garbage for every parameter against a rule that decides by pieces; ranges with infinite ends among all of them.
-//!
-//! Prints how many cases of each kind were compared, and how many met each situation with infinities. Any difference ends it with
-//! status 1, and so does a situation or a number that was never met.
+//! random garbage for every parameter against a rule that decides by pieces. Prints how many cases of each kind were compared;
+//! any difference ends it with status 1.
 
 #[path = "../common/arguments.rs"]
 mod arguments;
@@ -22,21 +20,17 @@ mod tazsmibor;
 mod words;
 
 mod brute;
-mod drawn;
 mod garbage;
 mod library;
 mod pieces;
-mod situations;
 
 use floats::{Binary32, Binary64, Range, Width};
 use narrowing::Narrowed;
-use situations::Situations;
 use words::Words;
 
 const SHORT: usize = 12_000;
 const LONG: usize = 1_500;
 const WIDE: usize = 20_000;
-const WIDEST: usize = 8_000;
 const GARBAGE: usize = 300_000;
 
 /// Ends the run with the case that differs.
@@ -45,29 +39,20 @@ fn fail<W: Width>(kind: &str, [x, a, b]: [Range; 3], expected: &str, got: &str) 
     std::process::exit(1)
 }
 
-/// The cases of a width: the words they are drawn by, how many there were, and what they met.
-struct Cases {
-    words: Words,
-    count: usize,
-    situations: Situations,
-}
-
 /// The library's answer, held to the expected one.
-fn compare<W: Width>(cases: &mut Cases, kind: &str, ranges: [Range; 3], expected: Option<Narrowed>) {
+fn compare<W: Width>(kind: &str, ranges: [Range; 3], expected: Option<Narrowed>) {
     let [x, a, b] = ranges;
     let got = library::narrow::<W>(x, a, b);
     if got != Ok(expected) {
         fail::<W>(kind, ranges, &format!("{expected:?}"), &format!("{got:?}"));
     }
-    agree::<W>(cases, kind, ranges, expected);
+    agree::<W>(kind, ranges, expected);
 }
 
 /// The rule by pieces, and the reference that the listing test rests on, held to an answer: so short ranges try the rule, and
 /// on wide ones the rule tries the answer.
-fn agree<W: Width>(cases: &mut Cases, kind: &str, ranges: [Range; 3], answer: Option<Narrowed>) {
+fn agree<W: Width>(kind: &str, ranges: [Range; 3], answer: Option<Narrowed>) {
     let [x, a, b] = ranges;
-    cases.count += 1;
-    cases.situations.count(ranges, answer);
     if !pieces::is_narrowing::<W>(ranges, answer) {
         fail::<W>(kind, ranges, "another narrowing, by pieces", &format!("{answer:?}"));
     }
@@ -82,63 +67,66 @@ fn report<W: Width>(kind: &str, placement: &str, count: usize, solved: usize) {
 }
 
 /// Short ranges for both operands: every pair of operands is tried.
-fn short_operands<W: Width>(cases: &mut Cases, placement: &str, draw: impl Fn(&mut Words) -> [Range; 3]) {
+fn short_operands<W: Width>(words: &mut Words, placement: &str) -> usize {
     let mut solved = 0;
     for _ in 0..SHORT {
-        let [x, a, b] = draw(&mut cases.words);
+        let (p, q) = cases::middles::<W>(words, placement);
+        let (x, a) = (cases::around::<W>(words, p, 12), cases::around::<W>(words, q, 12));
+        let b = cases::about_sum::<W>(words, x, a, 12);
         let expected = brute::by_operands::<W>(x, a, b);
         solved += expected.is_some() as usize;
-        compare::<W>(cases, "short operands", [x, a, b], expected);
+        compare::<W>("short operands", [x, a, b], expected);
     }
     report::<W>("short operands", placement, SHORT, solved);
+    SHORT
 }
 
 /// A short range for one operand and for the sum, any range for the other: every operand with every sum is tried.
-fn short_sums<W: Width>(cases: &mut Cases, placement: &str, draw: impl Fn(&mut Words) -> [Range; 3]) {
+fn short_sums<W: Width>(words: &mut Words, placement: &str) -> usize {
     let mut solved = 0;
     for _ in 0..LONG {
-        let [x, a, b] = draw(&mut cases.words);
+        let (p, q) = cases::middles::<W>(words, placement);
+        let (x, a) = (cases::wide::<W>(words), cases::around::<W>(words, q, 5));
+        let sum = W::sum(p.clamp(x.low, x.high), a.low) + words.between(-8, 8);
+        let b = cases::around::<W>(words, sum, 5);
         let expected = brute::by_sums::<W>(x, a, b);
         solved += expected.is_some() as usize;
-        compare::<W>(cases, "short sums", [x, a, b], expected);
-        compare::<W>(cases, "short sums", [a, x, b], expected.map(Narrowed::swap));
+        compare::<W>("short sums", [x, a, b], expected);
+        let swapped = expected.map(|n| Narrowed { x: n.a, a: n.x, b: n.b });
+        compare::<W>("short sums", [a, x, b], swapped);
     }
     report::<W>("short sums", placement, 2 * LONG, 2 * solved);
+    2 * LONG
 }
 
 /// Wide ranges: too many pairs to try, so each of the answer's ends is tested by pieces; and the reference is held to it.
-fn wide_ranges<W: Width>(cases: &mut Cases, placement: &str, count: usize, draw: impl Fn(&mut Words) -> [Range; 3]) {
+fn wide_ranges<W: Width>(words: &mut Words, opposite: bool) -> usize {
+    let placement = if opposite { "opposite binades" } else { "anywhere" };
     let mut solved = 0;
-    for _ in 0..count {
-        let ranges = draw(&mut cases.words);
-        let [x, a, b] = ranges;
-        let answer = library::narrow::<W>(x, a, b).unwrap_or_else(|what| fail::<W>("wide ranges", ranges, "a narrowing", &what));
+    for _ in 0..WIDE {
+        let (x, a) =
+            if opposite { cases::opposite_binades::<W>(words) } else { (cases::wide::<W>(words), cases::wide::<W>(words)) };
+        let b = if words.below(3) == 0 { cases::wide::<W>(words) } else { cases::about_sum::<W>(words, x, a, 40) };
+        let answer =
+            library::narrow::<W>(x, a, b).unwrap_or_else(|what| fail::<W>("wide ranges", [x, a, b], "a narrowing", &what));
         solved += answer.is_some() as usize;
-        agree::<W>(cases, "wide ranges", ranges, answer);
+        agree::<W>("wide ranges", [x, a, b], answer);
     }
-    report::<W>("wide ranges", placement, count, solved);
+    report::<W>("wide ranges", placement, WIDE, solved);
+    WIDE
 }
 
 fn width<W: Width>() -> usize {
-    let words = Words(0x9E37_79B9_7F4A_7C15);
-    let mut cases = Cases { words, count: 0, situations: Situations::new::<W>() };
+    let mut words = Words(0x9E37_79B9_7F4A_7C15);
+    let mut cases = 0;
     for placement in cases::PLACEMENTS {
-        short_operands::<W>(&mut cases, placement, |words| drawn::operands::<W>(words, placement));
-        short_sums::<W>(&mut cases, placement, |words| drawn::sums::<W>(words, placement));
+        cases += short_operands::<W>(&mut words, placement);
+        cases += short_sums::<W>(&mut words, placement);
     }
-    short_operands::<W>(&mut cases, "infinities", drawn::outer_operands::<W>);
-    short_sums::<W>(&mut cases, "infinities", drawn::outer_sums::<W>);
-    wide_ranges::<W>(&mut cases, "anywhere", WIDE, drawn::wide::<W>);
-    wide_ranges::<W>(&mut cases, "opposite binades", WIDE, drawn::opposite_binades::<W>);
-    wide_ranges::<W>(&mut cases, "to infinity", WIDEST, drawn::outer_wide::<W>);
-    for all in [cases::finite::<W>(), cases::all::<W>()] {
-        compare::<W>(&mut cases, "all floats", [all; 3], Some(Narrowed { x: all, a: all, b: all }));
-    }
-    if !cases.situations.met::<W>() {
-        eprintln!("differential: width {}: a situation was never met", W::BITS);
-        std::process::exit(1);
-    }
-    cases.count
+    cases += wide_ranges::<W>(&mut words, false) + wide_ranges::<W>(&mut words, true);
+    let all = cases::finite::<W>();
+    compare::<W>("all floats", [all, all, all], Some(Narrowed { x: all, a: all, b: all }));
+    cases + 1
 }
 
 fn main() {

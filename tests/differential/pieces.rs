@@ -1,13 +1,9 @@
-//! Whether wide ranges have a solution, by cutting their finite floats into pieces of equal steps; and so whether an answer is the
-//! narrowing.
+//! Whether wide ranges have a solution, by cutting them into pieces of equal steps; and so whether an answer is the narrowing.
 //!
 //! On a piece, the floats are equally far apart. Let x and a run over a piece each, x with the smaller step u. Take the least q
 //! whose sum with the greatest x reaches b, and the least p whose sum with q does. If p + q overshoots b, there is no solution
 //! on these pieces. Smaller a fall short. If p is the least x, every larger a overshoots as well. Otherwise p - u and p, each
-//! with q, are neighbouring multiples of u, of which one rounds below b and one above it; and every sum is a multiple of u. So it is
-//! where the ends of b are infinite: a sum that rounds to an infinity is at the end of the ladder, and no other is beyond it.
-//!
-//! Infinite operands are looked at by themselves: one alone decides the sum.
+//! with q, are neighbouring multiples of u, of which one rounds below b and one above it; and every sum is a multiple of u.
 
 use crate::floats::{Place, Range, Width};
 use crate::narrowing::Narrowed;
@@ -43,8 +39,8 @@ fn on_pieces<W: Width>(x: Range, a: Range, b: Range) -> bool {
     p <= x.high && W::sum(p, q) <= b.high
 }
 
-/// Whether there are finite x and a of the ranges with x + a in b. An empty range has none.
-fn solvable_finite<W: Width>(x: Range, a: Range, b: Range) -> bool {
+/// Whether there are x, a and b of the ranges with x + a = b. An empty range has none.
+pub fn solvable<W: Width>(x: Range, a: Range, b: Range) -> bool {
     if [x, a, b].iter().any(|r| r.low > r.high) || W::sum(x.high, a.high) < b.low || b.high < W::sum(x.low, a.low) {
         return false;
     }
@@ -53,22 +49,9 @@ fn solvable_finite<W: Width>(x: Range, a: Range, b: Range) -> bool {
         return if finer { on_pieces::<W>(x, a, b) } else { on_pieces::<W>(a, x, b) };
     }
     if cuts::<W>(x) < cuts::<W>(a) {
-        return halves::<W>(a).iter().any(|half| solvable_finite::<W>(x, *half, b));
+        return halves::<W>(a).iter().any(|half| solvable::<W>(x, *half, b));
     }
-    halves::<W>(x).iter().any(|half| solvable_finite::<W>(*half, a, b))
-}
-
-/// Whether an infinity of b is one of x, with an a that is not its opposite.
-fn solvable_at_infinity<W: Width>(x: Range, a: Range, b: Range) -> bool {
-    let has_other = |infinity: Place| a.low <= a.high && (a.low, a.high) != (-infinity, -infinity);
-    [W::INFINITY, -W::INFINITY].into_iter().any(|infinity| x.contains(infinity) && b.contains(infinity) && has_other(infinity))
-}
-
-/// Whether there are x, a and b of the ranges with x + a = b.
-pub fn solvable<W: Width>(x: Range, a: Range, b: Range) -> bool {
-    solvable_at_infinity::<W>(x, a, b)
-        || solvable_at_infinity::<W>(a, x, b)
-        || solvable_finite::<W>(x.finite::<W>(), a.finite::<W>(), b)
+    halves::<W>(x).iter().any(|half| solvable::<W>(*half, a, b))
 }
 
 /// Whether the answer is the narrowing of the ranges: none if there is no solution; else each end lies in the range given and

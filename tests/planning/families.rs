@@ -1,8 +1,6 @@
-//! Random sheets: some that take a pass for each step, some around a solution, some that join wide cells; a part of each with infinite
-//! ends.
+//! Random sheets: some that take a pass for each step, some around a solution, some that join wide cells.
 
-use crate::cases::{PLACEMENTS, about_sum, all, around, finite, middles, numbers_around};
-use crate::cases::{opposite_binades, outer_middles, stretched, wide};
+use crate::cases::{PLACEMENTS, about_sum, around, finite, middles, opposite_binades, wide};
 use crate::floats::{Place, Range, Width};
 use crate::sheets::{KINDS, Sheet};
 use crate::words::Words;
@@ -78,41 +76,36 @@ fn doubling<W: Width>(words: &mut Words) -> Sheet {
     sheet
 }
 
-/// All finite floats, or all numbers where the place is infinite.
-fn widest<W: Width>(place: Place) -> Range {
-    if place.abs() == W::INFINITY { all::<W>() } else { finite::<W>() }
-}
-
-/// An interval that has the place: it alone, some numbers about it, a wide one, or the widest.
+/// An interval that has the place: it alone, some floats about it, a wide one, or all floats.
 fn having<W: Width>(words: &mut Words, place: Place) -> Range {
     let wide = wide::<W>(words);
     match words.below(4) {
         0 => point(place),
-        1 => numbers_around::<W>(words, place, 12),
+        1 => around::<W>(words, place, 12),
         2 => Range { low: wide.low.min(place), high: wide.high.max(place) },
-        _ => widest::<W>(place),
+        _ => finite::<W>(),
     }
 }
 
-/// The value that a record of the kind gives to its last cell; zero if it has none.
+/// The value that a record of the kind gives to its last cell; the largest float if it is too large.
 fn made<W: Width>(kind: &str, x: Place, a: Place) -> Place {
     let value = match kind {
         "sum" => W::sum(x, a),
         "diff" => W::sum(x, -a),
         _ => -x,
     };
-    if value.abs() <= W::INFINITY { value } else { 0 }
+    value.clamp(-W::LARGEST, W::LARGEST)
 }
 
 /// Two cells, and others that a record each makes of earlier ones, in a row or not; and values for the cells, which fit the
-/// records unless one has opposite infinities for its operands.
+/// records unless one was too large.
 fn with_values<W: Width>(words: &mut Words) -> (Sheet, Vec<Place>) {
     let placement = words.pick(&PLACEMENTS);
-    let (p, q) = if words.below(4) == 0 { outer_middles::<W>(words) } else { middles::<W>(words, placement) };
-    let mut values = vec![p.clamp(-W::INFINITY, W::INFINITY), q.clamp(-W::INFINITY, W::INFINITY)];
+    let (p, q) = middles::<W>(words, placement);
+    let mut values = vec![p.clamp(-W::LARGEST, W::LARGEST), q.clamp(-W::LARGEST, W::LARGEST)];
     let mut sheet = Sheet::default();
     for place in &values {
-        sheet.cell(numbers_around::<W>(words, *place, 4));
+        sheet.cell(around::<W>(words, *place, 4));
     }
     let row = words.coin();
     for b in 2..words.between(4, 9) as usize {
@@ -120,7 +113,7 @@ fn with_values<W: Width>(words: &mut Words) -> (Sheet, Vec<Place>) {
         let a = words.below(b as u64) as usize;
         let kind = words.pick(&KINDS);
         values.push(made::<W>(kind, values[x], values[a]));
-        sheet.cell(if row { widest::<W>(values[b]) } else { having::<W>(words, values[b]) });
+        sheet.cell(if row { finite::<W>() } else { having::<W>(words, values[b]) });
         match kind {
             "neg" => sheet.record(kind, &[x, b]),
             _ => sheet.record(kind, &[x, a, b]),
@@ -139,7 +132,7 @@ fn missed<W: Width>(words: &mut Words) -> Sheet {
     let (mut sheet, values) = with_values::<W>(words);
     let cell = words.below(values.len() as u64) as usize;
     let middle = values[cell] + words.between(-12, 12);
-    sheet.cells[cell] = numbers_around::<W>(words, middle, 12);
+    sheet.cells[cell] = around::<W>(words, middle, 12);
     sheet
 }
 
@@ -195,22 +188,11 @@ fn joined<W: Width>(words: &mut Words) -> Sheet {
     sheet
 }
 
-/// Moves ends of a cell or two to the infinities.
-fn stretch<W: Width>(words: &mut Words, sheet: &mut Sheet) {
-    for _ in 0..words.between(1, 2) {
-        let cell = words.below(sheet.cells.len() as u64) as usize;
-        sheet.cells[cell] = stretched::<W>(words, sheet.cells[cell]);
-    }
-}
-
-/// A sheet of the n-th family, which come in turn, now and then stretched. Its records stand as they were made; or backwards, so that
-/// of a row each pass reaches one cell more; or in any order.
+/// A sheet of the n-th family, which come in turn. Its records stand as they were made; or backwards, so that of a row each pass
+/// reaches one cell more; or in any order.
 pub fn sheet<W: Width>(words: &mut Words, n: usize) -> Sheet {
     let families = [counting::<W>, doubling::<W>, solved::<W>, missed::<W>, near::<W>, joined::<W>];
     let mut sheet = families[n % families.len()](words);
-    if words.below(4) == 0 {
-        stretch::<W>(words, &mut sheet);
-    }
     match words.below(3) {
         0 => sheet.records.reverse(),
         1 => shuffle(words, &mut sheet.records),

@@ -9,8 +9,8 @@
 //! - passes: a stopped sheet has made as many as its limit; each moves an end, but for the last of a sheet that settles
 //! - orders: answers are equal in whatever order the records come, and if one comes twice
 //!
-//! Usage: planning PROGRAM. Prints how often each premise held, by width, by kind of record, where a record names a cell twice and
-//! where one has infinite ends; status 1 if one never did, or if a sentence was broken.
+//! Usage: planning PROGRAM. Prints how often each premise held, by width, by kind of record and where a record names a cell twice;
+//! status 1 if one never did, or if a sentence was broken.
 
 #[path = "../common/cases.rs"]
 mod cases;

@@ -4,8 +4,8 @@ use crate::floats::{Range, Width};
 
 pub const KINDS: [&str; 3] = ["sum", "diff", "neg"];
 
-/// What a sheet may have: records of each kind, one that names a cell twice, and one over a cell with an infinite end.
-pub const PARTS: [&str; 5] = ["sum", "diff", "neg", "repeated", "infinite"];
+/// What a sheet may have: records of each kind, and one that names a cell twice.
+pub const PARTS: [&str; 4] = ["sum", "diff", "neg", "repeated"];
 
 #[derive(Clone)]
 pub struct Record {
@@ -37,14 +37,9 @@ impl Sheet {
     }
 
     /// Whether it has such a part.
-    pub fn has<W: Width>(&self, part: &str) -> bool {
+    pub fn has(&self, part: &str) -> bool {
         let repeats = |cells: &[usize]| (1..cells.len()).any(|i| cells[..i].contains(&cells[i]));
-        let is_infinite = |cell: &usize| self.cells[*cell].low == -W::INFINITY || self.cells[*cell].high == W::INFINITY;
-        self.records.iter().any(|record| match part {
-            "repeated" => repeats(&record.cells),
-            "infinite" => record.cells.iter().any(is_infinite),
-            kind => record.kind == kind,
-        })
+        self.records.iter().any(|record| record.kind == part || part == "repeated" && repeats(&record.cells))
     }
 
     pub fn text<W: Width>(&self, limit: u32) -> String {

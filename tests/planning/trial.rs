@@ -76,7 +76,7 @@ impl Trial {
 
     /// Counts premises that held for a sheet, by the parts that it has.
     pub fn held<W: Width>(&mut self, sheet: &Sheet, premises: &[Premise]) {
-        for part in PARTS.into_iter().filter(|part| sheet.has::<W>(part)) {
+        for part in PARTS.into_iter().filter(|part| sheet.has(part)) {
             for premise in premises {
                 *self.counts.entry((*premise, W::BITS, part)).or_default() += 1;
             }
@@ -102,10 +102,9 @@ impl Trial {
         for (premise, name) in PREMISES {
             for bits in [32, 64] {
                 let counts = PARTS.map(|part| self.counts.get(&(premise, bits, part)).copied().unwrap_or(0));
-                let [sums, diffs, negs, repeated, infinite] = counts;
+                let [sums, diffs, negs, repeated] = counts;
                 println!(
-                    "width {bits}, {name}: {sums} with sums, {diffs} with diffs, {negs} with negs, {repeated} with repeated cells, \
-                     {infinite} with infinite ends"
+                    "width {bits}, {name}: {sums} with sums, {diffs} with diffs, {negs} with negs, {repeated} with repeated cells"
                 );
                 never += counts.iter().filter(|count| **count == 0).count();
             }

@@ -1,5 +1,4 @@
-//! Narrowing of three cells by one record, by trying every value of each cell that it names. Opposite infinities have a NaN for
-//! their sum, which is no value of a cell.
+//! Narrowing of three cells by one record, by trying every value of each cell that it names.
 
 use crate::floats::{Place, Range, Width};
 use crate::records::Record;

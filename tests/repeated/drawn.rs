@@ -1,6 +1,6 @@
 //! Cases of a coincidence, drawn so that solutions are frequent: over short ranges, and over long ones.
 
-use crate::cases::{half_step, numbers_around, outermost, power, signed, stretched, top, wide};
+use crate::cases::{around, half_step, power, signed, top, wide};
 use crate::coincidences::{Coincidence, Relation};
 use crate::ends;
 use crate::floats::{Place, Range, Width};
@@ -29,14 +29,14 @@ fn beside(words: &mut Words, place: Place) -> Place {
     place + words.pick(&[-3, -2, -1, 0, 0, 0, 1, 1, 2, 3])
 }
 
-/// A place for p: about zero, a power of two, infinity or half the largest float, among the lowest binades or about their ends, or
+/// A place for p: about zero, a power of two, the largest float or its half, among the lowest binades or about their ends, or
 /// anywhere.
 fn middle<W: Width>(words: &mut Words) -> Place {
     let binade = 1 << W::FRACTION;
     let size = match words.below(6) {
         0 => words.between(0, 20),
         1 => power::<W>(words.between(0, top::<W>())),
-        2 => W::INFINITY - words.pick(&[0, binade]) - words.between(0, 8),
+        2 => W::LARGEST - words.pick(&[0, binade]) - words.between(0, 8),
         3 => words.between(0, 8 * binade),
         4 => words.between(0, 8) * binade,
         _ => words.between(0, W::LARGEST),
@@ -52,17 +52,13 @@ fn most_absorbed<W: Width>(words: &mut Words, p: Place) -> Place {
     beside(words, half)
 }
 
-/// A place for q: about the double of p, now and then about its mirror; about zero, the most that p absorbs, of either sign, or an
-/// end of the ladder; or about zero.
+/// A place for q: about the double of p; about zero or the most that p absorbs, of either sign; or about zero.
 fn partner<W: Width>(words: &mut Words, relation: Relation, p: Place) -> Place {
-    let (most, outer) = (most_absorbed::<W>(words, p), outermost::<W>(words));
-    let double = W::sum(p, p);
+    let most = most_absorbed::<W>(words, p);
     let near = match relation {
-        Relation::Doubling | Relation::Halving if words.below(16) == 0 => -double,
-        Relation::Doubling | Relation::Halving => double,
-        Relation::Absorbing if p.abs() == W::INFINITY => words.pick(&[0, most, outer, outer]),
-        Relation::Absorbing => words.pick(&[0, most, most, -most, -most, outer]),
-        Relation::Difference | Relation::Itself | Relation::Zero => 0,
+        Relation::Doubling => W::sum(p, p),
+        Relation::Absorbing => words.pick(&[0, most, -most]),
+        Relation::Difference | Relation::Zero => 0,
     };
     beside(words, near)
 }
@@ -74,29 +70,28 @@ fn all_absorbed<W: Width>(words: &mut Words, p: Place) -> Range {
 
 type Draw = fn(&mut Words, Place) -> Range;
 
-/// Up to eight numbers on each side of the middle.
+/// Up to eight floats on each side of the middle.
 fn short<W: Width>(words: &mut Words, middle: Place) -> Range {
     let most = words.pick(&[0, 1, 2, 8]);
     let ends = [middle - words.between(0, most), middle + words.between(0, most)];
-    let [low, high] = ends.map(|end| end.clamp(-W::INFINITY, W::INFINITY));
+    let [low, high] = ends.map(|end| end.clamp(-W::LARGEST, W::LARGEST));
     Range { low, high }
 }
 
-/// A wide range, one from zero on, or one of any length; now and then with infinite ends.
+/// A wide range, one from zero on, or one of any length.
 fn long<W: Width>(words: &mut Words, middle: Place) -> Range {
-    let end = middle.clamp(-W::INFINITY, W::INFINITY);
+    let end = middle.clamp(-W::LARGEST, W::LARGEST);
     let most = 1 << words.below(W::BITS - 2);
-    let range = match words.below(3) {
+    match words.below(3) {
         0 => wide::<W>(words),
         1 => Range { low: end.min(0), high: end.max(0) },
-        _ => numbers_around::<W>(words, middle, most),
-    };
-    if words.below(4) == 0 { stretched::<W>(words, range) } else { range }
+        _ => around::<W>(words, middle, most),
+    }
 }
 
 /// A case over any two of the cells: p as drawn, and q too, or all that p absorbs if that is at most `most`.
 fn case<W: Width>(words: &mut Words, coincidence: &Coincidence, [draw_p, draw_q]: [Draw; 2], most: Place) -> Case {
-    let about_zero = matches!(coincidence.relation, Relation::Zero | Relation::Itself) && words.coin();
+    let about_zero = coincidence.relation == Relation::Zero && words.coin();
     let middle_p = if about_zero { beside(words, 0) } else { middle::<W>(words) };
     let range_p = draw_p(words, middle_p);
     let value = words.between(range_p.low, range_p.high);

@@ -1,6 +1,5 @@
 //! Records that name a cell more than once, by the library's export for tests, at both widths: for each coincidence, short ranges
-//! against brute force over the hardware's addition and long ones against the reference, infinite ends among both; and garbage for
-//! every parameter.
+//! against brute force over the hardware's addition and long ones against the reference; and garbage for every parameter.
 //!
 //! Compared are the number, 0 where no end moves, 12 where one does and 11 where there is no solution; and the six words: each end
 //! in its one pattern, also of the cell that is not named, or all as they were. The reference that the listing test rests on is held
@@ -38,7 +37,7 @@ mod tally;
 use coincidences::{COINCIDENCES, Coincidence};
 use drawn::Case;
 use floats::{Binary32, Binary64, Range, Width};
-use records::{Record, Standard, narrow_record};
+use records::{Record, narrow_record};
 use tally::Tally;
 use words::Words;
 
@@ -48,7 +47,7 @@ const GARBAGE: usize = 400_000;
 
 /// The cells narrowed by the reference.
 fn reference<W: Width>(record: Record, mut cells: [Range; 3]) -> Option<[Range; 3]> {
-    narrow_record::<Standard, W>(&mut cells, record).map(|()| cells)
+    narrow_record::<W>(&mut cells, record).map(|()| cells)
 }
 
 /// Compares the library's answer with the cells narrowed in one or more other ways, and counts the case. The first that differs is
@@ -85,7 +84,7 @@ fn short<W: Width>(words: &mut Words, coincidence: &Coincidence) -> bool {
 
 /// Each case with a solution comes a second time, with its cells narrowed: no end moves any more.
 fn long<W: Width>(words: &mut Words, coincidence: &Coincidence) -> bool {
-    let mut tally = Tally::new(situations::of_long::<W>(coincidence.relation));
+    let mut tally = Tally::new(situations::of_long(coincidence.relation));
     for _ in 0..LONG {
         let mut case = drawn::long_case::<W>(words, coincidence);
         let narrowed = reference::<W>(case.record, case.cells);

@@ -20,13 +20,13 @@ impl Tally {
 
     pub fn count(&mut self, case: &Case, narrowed: Option<[Range; 3]>, agrees: bool) {
         self.differed += !agrees as u64;
-        *(match narrowed {
-            None => &mut self.none,
-            Some(after) if after == case.cells => &mut self.settled,
-            _ => &mut self.moved,
-        }) += 1;
+        let Some(after) = narrowed else {
+            self.none += 1;
+            return;
+        };
+        *(if after == case.cells { &mut self.settled } else { &mut self.moved }) += 1;
         for (situation, count) in &mut self.situations {
-            *count += situation.holds(case.pair(case.cells), narrowed.map(|after| case.pair(after))) as u64;
+            *count += (situation.holds)(case.pair(case.cells), case.pair(after)) as u64;
         }
     }
 

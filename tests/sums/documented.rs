@@ -8,7 +8,6 @@ const NAME: &str = "docs/ARITHMETIC.md";
 const DOCUMENT: &str = include_str!("../../docs/ARITHMETIC.md");
 const SIGN: u32 = 1 << 31;
 const HIDDEN: u32 = 1 << 23;
-const INFINITY: u128 = 0x7F80_0000;
 
 /// A pattern without its sign as a significand and how far it is shifted.
 fn parts(m: u32) -> (u128, u32) {
@@ -31,7 +30,7 @@ fn answer(x: u32, a: u32, left: u32) -> String {
     }
 }
 
-/// The row of two finite floats whose exact sum has more digits than a significand; an infinite sum leaves nothing over.
+/// The row of two floats whose exact sum has more digits than a significand.
 fn row(x: u32, a: u32) -> String {
     let (p, q) = (x & !SIGN, a & !SIGN);
     let ((larger, high), (smaller, shift)) = (parts(p.max(q)), parts(p.min(q)));
@@ -43,11 +42,7 @@ fn row(x: u32, a: u32) -> String {
     let up = 2 * rest > step || 2 * rest == step && kept % 2 == 1;
     let m = u128::from((shift + drop) * HIDDEN) + kept + u128::from(up);
     let negative = (if p < q { a } else { x }) & SIGN;
-    let left = match up {
-        _ if m >= INFINITY => 0,
-        true => pattern(step - rest, shift) | (negative ^ SIGN),
-        false => pattern(rest, shift) | negative,
-    };
+    let left = if up { pattern(step - rest, shift) | (negative ^ SIGN) } else { pattern(rest, shift) | negative };
     let exact = format!("({larger:X} · 2^{gap} {sign} {smaller:X}) · 2^{shift}");
     format!("| `{x:08X}` | `{a:08X}` | {exact} | {kept:X} | {rest:X} of {step:X} | {m:X} | {} |", answer(x, a, left))
 }

@@ -1,9 +1,8 @@
-//! Exact values as whole numbers of units, wide enough for every finite float: what a sum leaves over, without any rounding. The
-//! place of an infinity has the value here that its exponent would give it, the power of two after the largest float.
+//! Exact values as whole numbers of units, wide enough for every finite float: what a sum leaves over, without any rounding.
 
 use crate::floats::{Place, Width};
 
-/// Words of a number of units: the largest value of width 64 has 2,099 bits, a sum of three has two more, and a sign.
+/// Words of a number of units: the largest value of width 64 has 2,098 bits, a sum of three has two more, and a sign.
 const WORDS: usize = 33;
 
 /// A whole number of units, low word first, below zero as its complement.

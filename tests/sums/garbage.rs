@@ -33,9 +33,9 @@ pub fn passed(calls: usize) -> bool {
         }
     }
     println!("garbage: calls {calls}, by number {numbers:?}, differed {differed}");
-    let met = numbers.keys().eq(&[0, 1, 2, 14]);
+    let met = numbers.keys().eq(&[0, 1, 2, 9]);
     if !met {
-        eprintln!("sums: garbage: one of 0, 1, 2 and 14 was never due");
+        eprintln!("sums: garbage: one of 0, 1, 2 and 9 was never due");
     }
     met && differed == 0
 }

@@ -7,8 +7,7 @@ pub trait Hardware: Width {
     /// The pattern of the hardware's sum of two patterns.
     fn add(x: u64, a: u64) -> u64;
 
-    /// The pattern of what that sum leaves over, by TwoSum in the hardware's own operations; none where something in it overflows
-    /// or is infinite.
+    /// The pattern of what that sum leaves over, by TwoSum in the hardware's own operations; none where something in it overflows.
     fn two_sum(x: u64, a: u64) -> Option<u64>;
 }
 
@@ -35,25 +34,24 @@ macro_rules! hardware {
 hardware!(Binary32, f32);
 hardware!(Binary64, f64);
 
-/// A sum and what it leaves over, by place.
+/// A finite sum and what it leaves over, by place.
 #[derive(Debug)]
 pub struct Sum {
     /// The operand larger in size, and the other.
     pub larger: Place,
     pub smaller: Place,
     pub place: Place,
-    /// By exact integers; zero where the sum is infinite.
+    /// By exact integers.
     pub left: Place,
-    /// By TwoSum, of the operands in either order; none where something in it overflows or is infinite.
+    /// By TwoSum, of the operands in either order; none where something in it overflows.
     pub two_sums: [Option<Place>; 2],
 }
 
-/// The hardware's sum, or the refusal number that is due: 2 for an operand that is no number, 14 where the hardware's sum is none.
+/// The hardware's sum, or the refusal number that is due: 2 for an operand that is not finite, 9 for a sum that is too large.
 pub fn sum<W: Hardware>(x: u64, a: u64) -> Result<Sum, u64> {
     let (p, q) = (W::place(x).ok_or(2u64)?, W::place(a).ok_or(2u64)?);
-    let place = W::place(W::add(x, a)).ok_or(14u64)?;
-    let finite = || exact::left_over::<W>(p, q, place).expect("what a sum leaves over is a float");
-    let left = if is_infinite::<W>(place) { 0 } else { finite() };
+    let place = W::place(W::add(x, a)).ok_or(9u64)?;
+    let left = exact::left_over::<W>(p, q, place).expect("what a sum leaves over is a float");
     let two_sum = |x, a| W::two_sum(x, a).and_then(W::place);
     let (larger, smaller) = if p.abs() < q.abs() { (q, p) } else { (p, q) };
     Ok(Sum { larger, smaller, place, left, two_sums: [two_sum(x, a), two_sum(a, x)] })
@@ -62,34 +60,15 @@ pub fn sum<W: Hardware>(x: u64, a: u64) -> Result<Sum, u64> {
 /// The number and the words after a call: zero has its one pattern, and a refusal leaves the words as they were.
 pub fn answer<W: Width>(sum: &Result<Sum, u64>, before: [u64; 3]) -> (u64, [u64; 3]) {
     match sum {
-        Ok(sum) => (0, [W::pattern(sum.place), sum.mark::<W>(), W::pattern(sum.left)]),
+        Ok(sum) => (0, [W::pattern(sum.place), sum.mark(), W::pattern(sum.left)]),
         Err(number) => (*number, before),
     }
 }
 
 impl Sum {
-    /// 0 exact or with an infinite operand, 1 rounded, also to an infinity. It is never 2: a sum below the smallest normal float is
-    /// exact.
-    fn mark<W: Width>(&self) -> u64 {
-        (self.left != 0 || self.overflows::<W>()) as u64
-    }
-
-    pub fn is_finite<W: Width>(&self) -> bool {
-        !is_infinite::<W>(self.place)
-    }
-
-    pub fn has_infinite_operand<W: Width>(&self) -> bool {
-        is_infinite::<W>(self.larger)
-    }
-
-    /// Whether finite operands have an infinite sum.
-    pub fn overflows<W: Width>(&self) -> bool {
-        !self.is_finite::<W>() && !self.has_infinite_operand::<W>()
-    }
-
-    /// Whether it is infinite though nothing would be left over: the exact sum is the power of two that infinity stands in for.
-    pub fn reaches_infinity<W: Width>(&self) -> bool {
-        self.overflows::<W>() && exact::left_over::<W>(self.larger, self.smaller, self.place) == Some(0)
+    /// 0 exact, 1 rounded. It is never 2: a sum below the smallest normal float is exact.
+    fn mark(&self) -> u64 {
+        if self.left == 0 { 0 } else { 1 }
     }
 
     /// Whether the hardware leaves over what the integers do, where it can tell.
@@ -116,10 +95,6 @@ impl Sum {
     pub fn is_tie<W: Width>(&self) -> bool {
         self.left != 0 && W::sum(self.left, self.left) == W::sum(self.place + self.left.signum(), -self.place)
     }
-}
-
-fn is_infinite<W: Width>(place: Place) -> bool {
-    place.abs() == W::INFINITY
 }
 
 /// The exponent that a place is scaled by; the subnormals have that of the smallest normal floats.

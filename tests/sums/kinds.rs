@@ -1,4 +1,4 @@
-//! Pairs of patterns of numbers, of twelve kinds. A size is a pattern without its sign; but for the last two kinds it is finite.
+//! Pairs of finite patterns, of ten kinds. A size is a pattern without its sign.
 
 use crate::cases::{power, top};
 use crate::floats::{Place, Width};
@@ -12,25 +12,19 @@ pub struct Kind {
     pub met: fn(&Tally) -> bool,
 }
 
-pub fn all<W: Width>() -> [Kind; 12] {
+pub fn all<W: Width>() -> [Kind; 10] {
     let kind = |name, pair, met| Kind { name, pair, met };
     [
         kind("any two", any_two::<W>, |t| t.rounded > 0 && t.far > 0),
         kind("near sizes", near_sizes::<W>, |t| t.rounded > 0 && t.exact() > 0 && t.carried > 0 && t.went_up > 0),
         kind("opposite signs", opposite_signs::<W>, |t| t.rounded > 0 && t.exact() > 0),
-        kind("equal sizes", equal_sizes::<W>, |t| t.exact() > 0 && t.overflows > 0),
-        kind("powers of two", two_powers::<W>, |t| t.rounded > 0 && t.exact() > 0 && t.reached > 0),
+        kind("equal sizes", equal_sizes::<W>, |t| t.exact() > 0 && t.too_large > 0),
+        kind("powers of two", two_powers::<W>, |t| t.rounded > 0 && t.exact() > 0),
         kind("ties", at_ties::<W>, |t| t.ties > t.compared / 20),
         kind("ties at powers of two", at_power_ties::<W>, |t| t.ties > t.compared / 20),
         kind("subnormal", about_subnormal::<W>, |t| t.subnormal > 0 && t.rounded > 0 && t.tiny > 0),
-        kind("largest", about_largest::<W>, |t| t.rounded > 0 && t.overflows > 0),
-        kind("largest and a few of its steps", steps_from_largest::<W>, |t| {
-            t.rounded > 0 && t.overflows > t.compared / 20 && t.reached > 0 && t.by_integers > 0
-        }),
-        kind("an infinity and any number", infinity_and_any::<W>, |t| t.finite() == 0 && t.infinite > 0 && t.opposite > 0),
-        kind("ends of the ladder", ends_of_ladder::<W>, |t| {
-            t.rounded > 0 && t.exact() > 0 && t.overflows > t.compared / 20 && t.infinite > t.compared / 20 && t.opposite > 0
-        }),
+        kind("largest", about_largest::<W>, |t| t.rounded > 0 && t.too_large > 0),
+        kind("largest and a few of its steps", steps_from_largest::<W>, |t| t.rounded > 0 && t.by_integers > 0),
     ]
 }
 
@@ -148,25 +142,5 @@ fn steps_from_largest<W: Width>(words: &mut Words) -> [u64; 2] {
     let p = W::LARGEST - words.between(0, 3);
     let step = power::<W>((W::LARGEST >> W::FRACTION) - 1 + words.between(-2, 2));
     let q = step + (words.between(0, 7) << (W::FRACTION - 3));
-    [signed::<W>(words, p), signed::<W>(words, q)]
-}
-
-/// An infinity, and an infinity, a number a few places from the ends of the ladder or from zero, or any number.
-fn infinity_and_any<W: Width>(words: &mut Words) -> [u64; 2] {
-    let few = words.between(0, 4);
-    let size = match words.below(4) {
-        0 => W::INFINITY,
-        1 => W::INFINITY - few,
-        2 => few,
-        _ => any::<W>(words),
-    };
-    [signed::<W>(words, W::INFINITY), signed::<W>(words, size)]
-}
-
-/// A number at most a few places from an end of the ladder, and another, or one about half the last step before infinity.
-fn ends_of_ladder<W: Width>(words: &mut Words) -> [u64; 2] {
-    let (p, q) = (W::INFINITY - words.between(0, 6), W::INFINITY - words.between(0, 6));
-    let half = power::<W>((W::LARGEST >> W::FRACTION) - 2) + words.between(-2, 2);
-    let q = if words.coin() { q } else { half };
     [signed::<W>(words, p), signed::<W>(words, q)]
 }

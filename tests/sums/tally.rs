@@ -11,20 +11,15 @@ pub struct Tally {
     pub ties: u64,
     /// Below the smallest normal float, and not zero.
     pub subnormal: u64,
-    /// Finite operands, an infinite sum; of these, exactly the power of two that infinity stands in for.
-    pub overflows: u64,
-    pub reached: u64,
-    /// An infinite operand, with its opposite and with anything else.
-    pub opposite: u64,
-    pub infinite: u64,
+    pub too_large: u64,
     /// Of what is left over: with the other sign than the sum, past a carry into the next binade, smaller than the smallest normal
     /// float, across a gap of a word or more.
     pub went_up: u64,
     pub carried: u64,
     pub tiny: u64,
     pub far: u64,
-    /// How often TwoSum told what a finite sum leaves over, in each order of the operands by itself, and how often something in it
-    /// overflowed, so that the integers alone told it.
+    /// How often TwoSum told what is left over, in each order of the operands by itself, and how often something in it overflowed,
+    /// so that the integers alone told it.
     pub by_hardware: u64,
     pub by_integers: u64,
     pub differed: u64,
@@ -38,7 +33,7 @@ impl Tally {
             Ok(sum) => {
                 let told = sum.two_sums.iter().flatten().count() as u64;
                 self.by_hardware += told;
-                self.by_integers += if sum.is_finite::<W>() { 2 - told } else { 0 };
+                self.by_integers += 2 - told;
                 self.rounded += (sum.left != 0) as u64;
                 self.ties += sum.is_tie::<W>() as u64;
                 self.subnormal += (1..1 << W::FRACTION).contains(&sum.place.abs()) as u64;
@@ -46,34 +41,25 @@ impl Tally {
                 self.carried += sum.carried::<W>() as u64;
                 self.tiny += (1..1 << W::FRACTION).contains(&sum.left.abs()) as u64;
                 self.far += sum.far::<W>() as u64;
-                self.overflows += sum.overflows::<W>() as u64;
-                self.reached += sum.reaches_infinity::<W>() as u64;
-                self.infinite += sum.has_infinite_operand::<W>() as u64;
             }
-            Err(_) => self.opposite += 1,
+            Err(_) => self.too_large += 1,
         }
     }
 
-    /// The finite sums.
-    pub fn finite(&self) -> u64 {
-        self.compared - self.overflows - self.infinite - self.opposite
-    }
-
     pub fn exact(&self) -> u64 {
-        self.finite() - self.rounded
+        self.compared - self.rounded - self.too_large
     }
 }
 
 impl std::fmt::Display for Tally {
     fn fmt(&self, f: &mut std::fmt::Formatter) -> std::fmt::Result {
-        let Tally { compared, rounded, ties, subnormal, overflows, reached, infinite, opposite, .. } = self;
+        let Tally { compared, rounded, ties, subnormal, too_large, .. } = self;
         let Tally { went_up, carried, tiny, far, by_hardware, by_integers, differed, .. } = self;
         write!(
             f,
-            "compared {compared}, rounded {rounded}, of these ties {ties}, subnormal {subnormal}, overflows {overflows}, of these \
-             without a rest {reached}, infinite operands {infinite}, opposite infinities {opposite}; left over: of the other sign \
-             {went_up}, past a carry {carried}, subnormal {tiny}, across a wide gap {far}, by TwoSum {by_hardware}, by integers alone \
-             {by_integers}; differed {differed}"
+            "compared {compared}, rounded {rounded}, of these ties {ties}, subnormal {subnormal}, too large {too_large}; left over: \
+             of the other sign {went_up}, past a carry {carried}, subnormal {tiny}, across a wide gap {far}, by TwoSum \
+             {by_hardware}, by integers alone {by_integers}; differed {differed}"
         )
     }
 }

@@ -17,11 +17,12 @@ use Rattle.ladder.proofs.Pairing.{pairing_unique, pairing_none, pairing_hull}
 use Rattle.ladder.proofs.Absorption.{half_step_le, power_pos, absorbs_zero, absorbs_half_step, around_absorbed, absorbed_zero, absorbed_greatest, absorbed_none, mirror_none, mirror_least, mirror_hull, around_hull, above_none, above_hull, absorbs_far, absorbs_far_below, least_bounds, greatest_bounds}
 use Rattle.arith.specs.declared.format.Format.{Format}
 use Rattle.arith.specs.declared.range.Range.{Range}
-use Rattle.arith.specs.declared.pairs.Couple.TheVariants as Couple
+use Rattle.arith.specs.declared.repeated.Couple.TheVariants as Couple
 use Rattle.arith.specs.Formats.{Sound, Finite, sum, mirrored}
 use Rattle.arith.specs.Exacts.{Encodable}
 use Rattle.arith.specs.Intervals.{Bounded, span, reflected}
-use Rattle.arith.specs.PairSearches.{Filled, BothFilled, coupled, finite_absorbing, absorbs, AbsorbsTo, AbsorbedTo, Absorber, FromZero, Nonzero, Sought, LowMisses, HighMisses}
+use Rattle.arith.specs.Repeats.{absorbing}
+use Rattle.arith.specs.PairSearches.{Filled, BothFilled, coupled, absorbs, AbsorbsTo, AbsorbedTo, Absorber, FromZero, Nonzero, Sought, LowMisses, HighMisses}
 use Rattle.arith.proofs.Formats.{infinity_lt}
 use Rattle.arith.proofs.Intervals.{reflected_ends}
 
@@ -208,16 +209,16 @@ module _ (F : Format) (X A : Range) (g : BothFilled F X A) where
   abbrev na : Bounded F A
   na = g.second.ends
 
-  is_none : ((x a : ℕ) → P.Pair test (span X) (span A) x a → ⊥) → coupled Couple.None ≡ finite_absorbing F X A
+  is_none : ((x a : ℕ) → P.Pair test (span X) (span A) x a → ⊥) → coupled Couple.None ≡ absorbing F X A
   is_none = pairing_unique test (span X) (span A) none
 
   -- no a is small enough
-  pub too_large : (r : ℕ) → AbsorbedTo F X r → F.sign < A.low → r < A.low → coupled Couple.None ≡ finite_absorbing F X A
+  pub too_large : (r : ℕ) → AbsorbedTo F X r → F.sign < A.low → r < A.low → coupled Couple.None ≡ absorbing F X A
   too_large r R l k =
       is_none (absorbed_none F.fraction F.exponent sound.some (span X) nx g.first.order (span A) r R (omega (arith, sound.sign)) k)
 
   -- no x absorbs the least a
-  pub absorber_none : F.sign < A.low → ((z : ℕ) → Absorber F A.low X z → ⊥) → coupled Couple.None ≡ finite_absorbing F X A
+  pub absorber_none : F.sign < A.low → ((z : ℕ) → Absorber F A.low X z → ⊥) → coupled Couple.None ≡ absorbing F X A
   absorber_none l N =
       is_none (above_none F.fraction F.exponent sound.some (span X) (span A) nx (omega (arith, sound.sign)) g.second.order N)
 
@@ -226,7 +227,7 @@ module _ (F : Format) (X A : Range) (g : BothFilled F X A) where
 
   pub above_ends :
       F.sign < A.low → (l u r : ℕ) → Least (Absorber F A.low X) l → Greatest (Absorber F A.low X) u → AbsorbedTo F X r → A.low ≤ r →
-      coupled (Couple.Ends (record { low = l; high = u }) (record { low = A.low; high = min A.high r })) ≡ finite_absorbing F X A
+      coupled (Couple.Ends (record { low = l; high = u }) (record { low = A.low; high = min A.high r })) ≡ absorbing F X A
   above_ends p l u r L U R k =
       pairing_unique test (span X) (span A) _
       (above_hull F.fraction F.exponent sound.some (span X) (span A) nx (omega (arith, sound.sign)) g.second.order l u (min A.high r) L U
@@ -239,10 +240,10 @@ module _ (F : Format) (X A : Range) (g : BothFilled F X A) where
     second = record { sound = sound; ends = reflected_ends F A _ refl na; order = omega (arith, g.second.order) };
   }
 
-  pub mirrored_none : coupled Couple.None ≡ finite_absorbing F (reflected F X) (reflected F A) → coupled Couple.None ≡ finite_absorbing F X A
+  pub mirrored_none : coupled Couple.None ≡ absorbing F (reflected F X) (reflected F A) → coupled Couple.None ≡ absorbing F X A
   mirrored_none e = is_none (mirror_none F.fraction F.exponent sound.some (span X) (span A) nx na (pairing_none test _ _ (sym e)))
 
-  pub mirrored_ends_lem : (P Q : Range) → coupled (Couple.Ends P Q) ≡ finite_absorbing F (reflected F X) (reflected F A) → coupled (Couple.Ends (reflected F P) (reflected F Q)) ≡ finite_absorbing F X A
+  pub mirrored_ends_lem : (P Q : Range) → coupled (Couple.Ends P Q) ≡ absorbing F (reflected F X) (reflected F A) → coupled (Couple.Ends (reflected F P) (reflected F Q)) ≡ absorbing F X A
   mirrored_ends_lem P Q e =
       pairing_unique test (span X) (span A) _
       (mirror_hull F.fraction F.exponent sound.some (span X) (span A) nx na (span P) (span Q) (pairing_hull test _ _ (span P) (span Q) (sym e)))
@@ -250,7 +251,7 @@ module _ (F : Format) (X A : Range) (g : BothFilled F X A) where
 -- zero inside A: r is what is absorbed, m what is absorbed in the mirror
 pub around_ends :
     (F : Format) (X A : Range) → BothFilled F X A → A.low ≤ F.sign → F.sign ≤ A.high → (r m : ℕ) → AbsorbedTo F X r → AbsorbedTo F (reflected F X) m →
-    coupled (Couple.Ends X (record { low = mirrored F (min (reflected F A).high m); high = min A.high r })) ≡ finite_absorbing F X A
+    coupled (Couple.Ends X (record { low = mirrored F (min (reflected F A).high m); high = min A.high r })) ≡ absorbing F X A
 around_ends F X A g dn up r m R M =
     let f = F.fraction in
     let d = F.exponent in

@@ -1,7 +1,7 @@
 -- The clamped operands make the same triples, and so have the same corner. Rests on `ladder`'s Clamp and Solutions.
 use Rattle.std.proofs.Common.{◌≡◌, ℕ, ◌-◌, ◌<◌, ◌≤◌, subst, arith}
 use Rattle.ladder.specs.Search.{NoMultiple, SomeMultiple, raised, lowered, zero_in}
-use Rattle.ladder.proofs.Solutions.{carried_x, kept_corner}
+use Rattle.ladder.proofs.Solutions.{kept_x, kept_corner}
 use Rattle.ladder.proofs.Clamp.{raised_kept, raised_given, raised_bounded, raised_fine, lowered_kept, lowered_given, lowered_bounded, lowered_fine}
 use Rattle.arith.specs.declared.format.Format.{Format}
 use Rattle.arith.specs.declared.range.Range.{Range}
@@ -15,7 +15,7 @@ use Rattle.arith.specs.Searches.{CornerOf, SameTriples}
 -- ---- the corner of other operands that make the same triples
 pub same_corner : {F : Format} {X A B : Range} {O : Operands} → SameTriples F X A B O → (r : Corner) → CornerOf F O.x O.a B r → CornerOf F X A B r
 same_corner {F} {X} {A} {B} {O} s (Corner.At x a b) h = kept_corner F.fraction F.exponent (span X) (span A) (span B) (span O.x) (span O.a) (span B) s.kept s.given x a b h
-same_corner {F} {X} {A} {B} {O} s Corner.Absent h = λ y w. h y (carried_x (span X) (span A) (span B) (span O.x) (span O.a) (span B) s.kept y w)
+same_corner {F} {X} {A} {B} {O} s Corner.Absent h = λ y w. h y (kept_x F.fraction F.exponent (span X) (span A) (span B) (span O.x) (span O.a) (span B) s.kept y w)
 
 pub same_self : {F : Format} {X A B : Range} → Sound F → Bounded F X → Bounded F A → B.low ≤ F.sign → F.sign ≤ B.high → SameTriples F X A B (record { x = X; a = A })
 same_self ok nx na l h = record { x_ends = nx; a_ends = na; kept = λ x a b s. s; given = λ x a b s. s; fine = zero_in (omega (arith, ok.sign)) (omega (arith, ok.sign)) }

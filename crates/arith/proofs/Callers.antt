@@ -2,18 +2,17 @@
 use Rattle.std.proofs.Common.{◌≡◌, ℕ, Bool, true, false, sym, refl, arith}
 use Rattle.ladder.specs.Solution as L
 use Rattle.ladder.specs.Narrowing.{Narrowing, none, ends}
-use Rattle.ladder.specs.Solution.{Numbers}
-use Rattle.ladder.proofs.Ordinals.{pattern_number}
-use Rattle.ladder.proofs.Hull.{narrowing_hull, hull_numbers}
-use Rattle.ladder.proofs.Parts.{makes_decides}
+use Rattle.ladder.specs.Solution.{Bounded}
+use Rattle.ladder.proofs.Ordinals.{pattern_finite}
+use Rattle.ladder.proofs.Hull.{narrowing_hull, hull_bounded}
 use Rattle.arith.specs.declared.format.Format.{Format}
 use Rattle.arith.specs.declared.interval.Interval.{Interval}
 use Rattle.arith.specs.declared.narrow.Narrowed.{Narrowed}
 use Rattle.arith.specs.declared.narrow.Narrowed.TheVariants.{Ends, Refused}
 use Rattle.arith.specs.Refusals.{or_refuse}
 use Rattle.arith.specs.Formats.{is_known, format_of}
-use Rattle.arith.specs.Intervals.{Valid, ends_number, is_ordered, range_of, span}
-use Rattle.arith.specs.Narrows.{narrowing, written, narrow_answer, narrow_ranges, narrow_in, narrow_of}
+use Rattle.arith.specs.Intervals.{Valid, ends_finite, is_ordered, range_of, span}
+use Rattle.arith.specs.Narrows.{narrowing, written, narrow_answer, narrow_finite, narrow_in, narrow_of}
 use Rattle.arith.proofs.Refusing.{passed}
 use Rattle.arith.proofs.Intervals.{range_ends}
 
@@ -45,7 +44,7 @@ module _ (width : ℕ) (x a b : Interval) where
       record { valid_x = vx; valid_a = va; valid_b = vb; X = X; A = A; B = B; is = i; x_is = cc; a_is = cc; b_is = cc }
 
   pub narrow_answered : (p q r : Interval) → narrow_of width x a b ≡ Ends p q r → Answered width x a b p q r
-  unfolding narrow_of narrow_in narrow_ranges
+  unfolding narrow_of narrow_in narrow_finite
   narrow_answered p q r e =
       let s1 = passes _ 1 _ p q r e in
       let s2 = passes _ 2 _ p q r s1.1 in
@@ -55,30 +54,30 @@ module _ (width : ℕ) (x a b : Interval) where
       let s6 = passes _ 3 _ p q r s5.1 in
       let s7 = passes _ 3 _ p q r s6.1 in
       from_narrowing p q r
-      (record { known = s1.0; numbers = s2.0; ordered = s5.0 })
-      (record { known = s1.0; numbers = s3.0; ordered = s6.0 })
-      (record { known = s1.0; numbers = s4.0; ordered = s7.0 })
+      (record { known = s1.0; finite = s2.0; ordered = s5.0 })
+      (record { known = s1.0; finite = s3.0; ordered = s6.0 })
+      (record { known = s1.0; finite = s4.0; ordered = s7.0 })
       _ refl s7.1
 
   -- the answer for intervals to which none of refusals 1 to 3 applies
-  pub narrow_valid : is_known width ≡ true → ends_number F x ≡ true → ends_number F a ≡ true → ends_number F b ≡ true → is_ordered (range_of F x) ≡ true → is_ordered (range_of F a) ≡ true → is_ordered (range_of F b) ≡ true
+  pub narrow_valid : is_known width ≡ true → ends_finite F x ≡ true → ends_finite F a ≡ true → ends_finite F b ≡ true → is_ordered (range_of F x) ≡ true → is_ordered (range_of F a) ≡ true → is_ordered (range_of F b) ≡ true
       → narrow_of width x a b ≡ narrow_answer F (narrowing F (range_of F x) (range_of F a) (range_of F b))
-  unfolding narrow_of narrow_in narrow_ranges
+  unfolding narrow_of narrow_in narrow_finite
   narrow_valid k fx fa fb ox oa ob = sym (passed Refused 1 _ _ k (passed Refused 2 _ _ fx (passed Refused 2 _ _ fa (passed Refused 2 _ _ fb (passed Refused 3 _ _ ox (passed Refused 3 _ _ oa (passed Refused 3 _ _ ob refl)))))))
 
--- written ends are numbers
-pub written_number : (F : Format) (I : L.Interval) → Numbers F.fraction F.exponent I → ends_number F (written F I) ≡ true
-unfolding ends_number
-written_number F I n = rw (pattern_number F.fraction F.exponent I.low n.low, pattern_number F.fraction F.exponent I.high n.high)
+-- written ends are finite
+pub written_finite : (F : Format) (I : L.Interval) → Bounded F.fraction F.exponent I → ends_finite F (written F I) ≡ true
+unfolding ends_finite
+written_finite F I n = rw (pattern_finite F.fraction F.exponent I.low n.low, pattern_finite F.fraction F.exponent I.high n.high)
 
-pub answered_numbers : (width : ℕ) (x a b p q r : Interval) → Answered width x a b p q r → (ends_number (format_of width) p ≡ true) × (ends_number (format_of width) q ≡ true) × (ends_number (format_of width) r ≡ true)
-answered_numbers width x a b p q r w =
+pub answered_finite : (width : ℕ) (x a b p q r : Interval) → Answered width x a b p q r → (ends_finite (format_of width) p ≡ true) × (ends_finite (format_of width) q ≡ true) × (ends_finite (format_of width) r ≡ true)
+answered_finite width x a b p q r w =
     let F = format_of width in
     let f = F.fraction in
     let e = F.exponent in
     let X = span (range_of F x) in
     let A = span (range_of F a) in
     let B = span (range_of F b) in
-    let h = narrowing_hull (makes_decides f e) X A B w.X w.A w.B w.is in
-    let n = hull_numbers X A B w.X w.A w.B h (range_ends F x (range_of F x) refl w.valid_x.numbers) (range_ends F a (range_of F a) refl w.valid_a.numbers) (range_ends F b (range_of F b) refl w.valid_b.numbers) in
-    (rw w.x_is (written_number F w.X n.0), rw w.a_is (written_number F w.A n.1), rw w.b_is (written_number F w.B n.2))
+    let h = narrowing_hull f e X A B w.X w.A w.B w.is in
+    let n = hull_bounded f e X A B w.X w.A w.B h (range_ends F x (range_of F x) refl w.valid_x.finite) (range_ends F a (range_of F a) refl w.valid_a.finite) (range_ends F b (range_of F b) refl w.valid_b.finite) in
+    (rw w.x_is (written_finite F w.X n.0), rw w.a_is (written_finite F w.A n.1), rw w.b_is (written_finite F w.B n.2))

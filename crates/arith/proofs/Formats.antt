@@ -1,10 +1,10 @@
 -- Formats as values: the format of a width is sound, and patterns and ordinals by a sound format's own numbers. Rests on `ladder`'s laws of ordinals.
-use Rattle.std.proofs.Common.{◌≡◌, ℕ, ◌+◌, ◌-◌, ◌*◌, ◌^◌, ◌<◌, ◌≤◌, Bool, true, false, cond, ◌&&◌, eqb, ltb, leb, sym, refl, ap, ◌∙◌, ap₂, true≢false, arith, lit≤, pow_pos, le-ltb, lt-ltb}
+use Rattle.std.proofs.Common.{◌≡◌, ℕ, ◌+◌, ◌-◌, ◌*◌, ◌^◌, ◌<◌, ◌≤◌, Bool, true, false, cond, ◌&&◌, eqb, ltb, sym, refl, ap, ◌∙◌, ap₂, inl, inr, true≢false, arith, lit≤, ltb-true, le-ltb, lt-ltb}
 use Rattle.ladder.specs.Ordinal as L
-use Rattle.ladder.proofs.Ordinals.{sign_is, infinity_lt_sign, number_fits}
-use Rattle.ladder.proofs.Lifting.{infinity_wide}
+use Rattle.ladder.proofs.Cases.{le_or_lt}
+use Rattle.ladder.proofs.Ordinals.{sign_is, infinity_lt_sign}
 use Rattle.arith.specs.declared.format.Format.{Format}
-use Rattle.arith.specs.Formats.{binary, format_of, Sound, is_finite, is_number, ordinal, pattern, negated}
+use Rattle.arith.specs.Formats.{binary, format_of, Sound, is_finite, ordinal, pattern, negated}
 
 -- a test of two parts
 pub both : (p q : Bool) → (p && q) ≡ true → (p ≡ true) × (q ≡ true)
@@ -17,8 +17,8 @@ unfolding L.sign L.infinity
 sound width = go (eqb width 32)
   where
     go : (b : Bool) → Sound (cond b (binary 23 8) (binary 52 11))
-    go true = record { some = lit≤ tt; wide = lit≤ tt; few = lit≤ tt; sign = refl; infinity = refl; word = lit≤ tt }
-    go false = record { some = lit≤ tt; wide = lit≤ tt; few = lit≤ tt; sign = refl; infinity = refl; word = lit≤ tt }
+    go true = record { some = lit≤ tt; few = lit≤ tt; sign = refl; infinity = refl; word = lit≤ tt }
+    go false = record { some = lit≤ tt; few = lit≤ tt; sign = refl; infinity = refl; word = lit≤ tt }
 
 module _ (F : Format) (ok : Sound F) where
   pub infinity_lt : F.infinity < F.sign
@@ -26,13 +26,6 @@ module _ (F : Format) (ok : Sound F) where
 
   pub smallest_normal : F.sign - F.infinity ≡ 2 ^ F.fraction
   smallest_normal = omega (arith, ok.sign, ok.infinity, sign_is F.fraction F.exponent)
-
-  -- infinity's place is a binade or more above zero
-  pub wide : 2 ^ F.fraction ≤ L.infinity F.fraction F.exponent
-  wide = infinity_wide F.fraction F.exponent ok.wide
-
-  pub positive : 0 < F.infinity
-  positive = omega (arith, ok.infinity, wide, pow_pos F.fraction)
 
   -- ---- patterns
   finite_is : (p : ℕ) → is_finite F p ≡ cond (ltb p F.sign) (ltb p F.infinity) (ltb (p - F.sign) F.infinity)
@@ -44,18 +37,11 @@ module _ (F : Format) (ok : Sound F) where
   pub finite_high : (p : ℕ) → F.sign ≤ p → ltb (p - F.sign) F.infinity ≡ is_finite F p
   finite_high p l = sym (finite_is p ∙ ap (λ (b : Bool). cond b (ltb p F.infinity) (ltb (p - F.sign) F.infinity)) (le-ltb _ _ l))
 
-  -- numbers, in the same way
-  number_by : (p : ℕ) → is_number F p ≡ cond (ltb p F.sign) (leb p F.infinity) (leb (p - F.sign) F.infinity)
-  number_by p = ap₂ (λ (s i : ℕ). cond (ltb p s) (leb p i) (leb (p - s) i)) (sym ok.sign) (sym ok.infinity)
+  below_infinity : (p : ℕ) → is_finite F p ≡ true → F.sign ≤ p → p - F.sign < F.infinity
+  below_infinity p h l = ltb-true _ _ (finite_high p l ∙ h)
 
-  pub number_low : (p : ℕ) → p < F.sign → leb p F.infinity ≡ is_number F p
-  number_low p l = sym (number_by p ∙ ap (λ (b : Bool). cond b (leb p F.infinity) (leb (p - F.sign) F.infinity)) (lt-ltb _ _ l))
-
-  pub number_high : (p : ℕ) → F.sign ≤ p → leb (p - F.sign) F.infinity ≡ is_number F p
-  number_high p l = sym (number_by p ∙ ap (λ (b : Bool). cond b (leb p F.infinity) (leb (p - F.sign) F.infinity)) (le-ltb _ _ l))
-
-  pub number_word : (p : ℕ) → is_number F p ≡ true → p < 2 * F.sign
-  number_word p h = omega (arith, ok.sign, number_fits F.fraction F.exponent p h)
+  pub finite_fits : (p : ℕ) → is_finite F p ≡ true → p < 2 * F.sign
+  finite_fits p h = elim (le_or_lt F.sign p) [ inl l ↦ omega (arith, infinity_lt, below_infinity p h l) | inr l ↦ omega arith ]
 
   pub ordinal_low : (p : ℕ) → p < F.sign → F.sign + p ≡ ordinal F p
   unfolding L.ordinal

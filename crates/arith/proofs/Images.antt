@@ -7,15 +7,15 @@ use Rattle.arith.specs.declared.interval.Interval.{Interval}
 use Rattle.arith.specs.declared.interval.Image.{Image}
 use Rattle.arith.specs.declared.interval.Image.TheVariants.{Is, Refused}
 use Rattle.arith.specs.Refusals.{refusal, or_refuse}
-use Rattle.arith.specs.Intervals.{ends_number, is_ordered, range_of, interval_of}
+use Rattle.arith.specs.Intervals.{ends_finite, is_ordered, range_of, interval_of}
 use Rattle.arith.proofs.Refusing.{refused, passed, holds, fails}
 
 -- the range P is the image
 abbrev image_of : Format → Interval → Range → Image
-image_of F I P = or_refuse Refused (ends_number F I) 2 (or_refuse Refused (is_ordered (range_of F I)) 3 (Is (interval_of F P)))
+image_of F I P = or_refuse Refused (ends_finite F I) 2 (or_refuse Refused (is_ordered (range_of F I)) 3 (Is (interval_of F P)))
 
--- what the calls gave: both ends are numbers, the range is R, and o says whether it is ordered
-module _ (F : Format) (I : Interval) {f o : Bool} {R : Range} (e : f ≡ ends_number F I) (h : not f ≡ false) (r : R ≡ range_of F I) (p : o ≡ is_ordered R) where
+-- what the calls gave: both ends are finite, the range is R, and o says whether it is ordered
+module _ (F : Format) (I : Interval) {f o : Bool} {R : Range} (e : f ≡ ends_finite F I) (h : not f ≡ false) (r : R ≡ range_of F I) (p : o ≡ is_ordered R) where
   pub reversed : (P : Range) {q : Refusal} → not o ≡ true → q ≡ refusal 3 → Refused q ≡ image_of F I P
   reversed P t d = passed Refused 2 _ _ (holds e h) (refused Refused 3 _ _ d (fails (p ∙ ap is_ordered r) t))
 

@@ -12,12 +12,9 @@ pub mod Crossing
 pub mod Thresholds
 pub mod Remainders
 pub mod Sums
-pub mod Infinities
 pub mod Clamping
 pub mod Bounds
 pub mod Narrowings
-pub mod Reaching
-pub mod Extending
 pub mod Callers
 pub mod Valid
 pub mod Replies
@@ -25,4 +22,3 @@ pub mod Additions
 pub mod Widths
 pub mod Repeating
 pub mod Absorbers
-pub mod Coinciding

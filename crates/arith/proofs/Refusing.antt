@@ -1,5 +1,5 @@
--- One test of an answer's chain, or three of one refusal: what a call answered, refused, or passed to the rest. Assumes nothing.
-use Rattle.std.proofs.Common.{◌≡◌, ℕ, Bool, true, false, cond, not, ◌&&◌, sym, refl, ap, ◌∙◌, true≢false}
+-- One test of an answer's chain: what a call answered, refused, or passed to the rest. Assumes nothing.
+use Rattle.std.proofs.Common.{◌≡◌, ℕ, Bool, true, false, cond, not, sym, ap, ◌∙◌}
 use borrow.Author.Tests.{not-true, not-false}
 use Rattle.arith.specs.declared.refusal.Refusal.{Refusal}
 use Rattle.arith.specs.Refusals.{refusal, or_refuse}
@@ -17,16 +17,3 @@ refused w n ok rest R h = ap w R ∙ sym (ap (λ (b : Bool). cond b rest (w (ref
 
 pub passed : {A : Type 0} (w : Refusal → A) (n : ℕ) (ok : Bool) (rest : A) {x : A} → ok ≡ true → x ≡ rest → x ≡ or_refuse w ok n rest
 passed w n ok rest h e = e ∙ sym (ap (λ (b : Bool). cond b rest (w (refusal n))) h)
-
--- ---- three tests of one refusal, made together
-pub three_passed : (p q r : Bool) → (p && (q && r)) ≡ true → (p ≡ true) × (q ≡ true) × (r ≡ true)
-three_passed true true true e = (refl, refl, refl)
-three_passed true true false e = absurd (true≢false (sym e))
-three_passed true false r e = absurd (true≢false (sym e))
-three_passed false q r e = absurd (true≢false (sym e))
-
-pub three_refused : {A : Type 0} (w : Refusal → A) (n : ℕ) (p q r : Bool) (rest : A) {d : Refusal} → d ≡ refusal n → (p && (q && r)) ≡ false → w d ≡ or_refuse w p n (or_refuse w q n (or_refuse w r n rest))
-three_refused w n true true true rest R h = absurd (true≢false h)
-three_refused w n true true false rest R h = ap w R
-three_refused w n true false r rest R h = ap w R
-three_refused w n false q r rest R h = ap w R

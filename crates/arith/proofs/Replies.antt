@@ -1,6 +1,6 @@
 -- What the answers' definitions tell is the reply due, test by test. Assumes nothing.
 use Rattle.std.proofs.Common.{◌≡◌, ℕ, Bool, true, false, cond, List, [], ◌∷◌, ◌++◌, refl, ap, ◌∙◌}
-use Rattle.ladder.specs.Narrowing.{Narrowing, none, ends, Extent, empty, over}
+use Rattle.ladder.specs.Narrowing.{Narrowing, none, ends}
 use Rattle.arith.specs.declared.range.Range.{Range}
 use Rattle.arith.specs.declared.refusal.Refusal.{Refusal}
 use Rattle.arith.specs.declared.interval.Interval.{Interval}
@@ -9,10 +9,9 @@ use Rattle.arith.specs.declared.interval.Cut.TheVariants as Cut
 use Rattle.arith.specs.declared.interval.Image.TheVariants as Image
 use Rattle.arith.specs.declared.narrow.Narrowed.TheVariants as Narrowed
 use Rattle.arith.specs.Formats.{format_of, ordinal}
-use Rattle.arith.specs.Sums.{sum_is, sum_answer, add_in, add_of}
+use Rattle.arith.specs.Sums.{sum_is, in_range, add_in, add_of}
 use Rattle.arith.specs.Intervals.{is_ordered, common, reflected, interval_of, shared_in, moved_in, canonical_in, cut_in, shift_in, mirror_in, canonical_of, cut_of, shift_of, mirror_of}
-use Rattle.arith.specs.Narrows.{narrow_answer, narrow_ranges, narrow_in, narrow_of}
-use Rattle.arith.specs.Repeats.{still_answer, still_in, still_of}
+use Rattle.arith.specs.Narrows.{narrow_answer, narrow_finite, narrow_in, narrow_of}
 use Rattle.arith.specs.Answers.{Reply, gives, refuses, sum_told, cut_told, image_told, narrowed_told}
 use Rattle.arith.specs.Replies as R
 use Rattle.arith.specs.Replies.{Test, reply_after}
@@ -62,7 +61,7 @@ told_too told t e = (e, ap told e ∙ t)
 
 -- ---- the forward sum
 pub add_told : (width x a : ℕ) → sum_told (add_of width x a) ≡ reply_after (R.add_tests width x a) (R.add_values width x a)
-unfolding add_of add_in sum_answer
+unfolding add_of add_in in_range
 add_told width x a =
     let F = format_of width in
     let s = R.sum_of width x a in
@@ -102,18 +101,7 @@ answer_told_lem width none = refl
 answer_told_lem width (ends X A B) = refl
 
 pub narrow_told : (width : ℕ) (x a b : Interval) → narrowed_told (narrow_of width x a b) ≡ reply_after (R.narrow_tests width x a b) (R.narrow_values width x a b)
-unfolding narrow_of narrow_in narrow_ranges
+unfolding narrow_of narrow_in narrow_finite
 narrow_told width x a b =
     let n = R.in_triples width x a b in
     told_chain Narrowed.Refused narrowed_told (λ _. refl) (R.given_tests width x a b) (R.solved n ∷ []) (narrow_answer (format_of width) n) (R.six_patterns width n) (answer_told_lem width n)
-
--- ---- x ⊕ x = x
-still_answer_told : (width : ℕ) (n : Extent) → image_told (still_answer (format_of width) n) ≡ reply_after (R.standing n ∷ []) (R.two_patterns width n)
-still_answer_told width empty = refl
-still_answer_told width (over I) = refl
-
-pub still_told : (width : ℕ) (I : Interval) → image_told (still_of width I) ≡ reply_after (R.still_tests width I) (R.still_values width I)
-unfolding still_of still_in
-still_told width I =
-    let n = R.in_still width I in
-    told_chain Image.Refused image_told (λ _. refl) (R.own_tests width I) (R.standing n ∷ []) (still_answer (format_of width) n) (R.two_patterns width n) (still_answer_told width n)

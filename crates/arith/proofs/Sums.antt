@@ -1,6 +1,6 @@
 -- Step 3 of the forward sum: the rounded exact sum, tested for its range, is 01's sum, as an ordinal and as an answer, and what rounding left over is 02's remainder.
 -- Rests on `ladder`'s laws of rounding and of the remainder.
-use Rattle.std.proofs.Common.{◌≡◌, ℕ, ◌+◌, ◌-◌, ◌<◌, ◌≤◌, min, Bool, true, false, cond, not, ◌||◌, eqb, sym, refl, ap, ◌∙◌, subst, ap₂, inl, inr, true≢false, arith, le-leb}
+use Rattle.std.proofs.Common.{◌≡◌, ℕ, ◌+◌, ◌-◌, ◌<◌, ◌≤◌, min, Bool, true, false, cond, ◌&&◌, eqb, ltb, sym, refl, ap, ◌∙◌, subst, ap₂, inl, inr, arith, le-ltb, lt-ltb, le-leb}
 use borrow.Author.Tests.{lt-leb}
 use Rattle.ladder.specs.Magnitude.{magnitude}
 use Rattle.ladder.specs.Rounding.{round}
@@ -12,7 +12,6 @@ use Rattle.ladder.proofs.Cases.{le_or_lt}
 use Rattle.ladder.proofs.Magnitude.{magnitude_lt}
 use Rattle.ladder.proofs.Sum.{rounded_up, rounded_down}
 use Rattle.ladder.proofs.Remainder.{sum_remainder}
-use Rattle.ladder.proofs.Lifting.{apart_left, extended_finite, inf_finite, inf_top, inf_bottom}
 use Rattle.arith.specs.declared.format.Format.{Format}
 use Rattle.arith.specs.declared.sum.Signed.{Signed}
 use Rattle.arith.specs.declared.sum.ExactSum.{ExactSum}
@@ -21,17 +20,20 @@ use Rattle.arith.specs.declared.sum.Rounding.{Rounding}
 use Rattle.arith.specs.declared.sum.Addition.{Addition}
 use Rattle.arith.specs.declared.sum.Tested.{Tested}
 use Rattle.arith.specs.declared.sum.Tested.TheVariants.{Finite, Overflow}
-use Rattle.arith.specs.declared.sum.Sum.{Sum}
 use Rattle.arith.specs.declared.sum.Sum.TheVariants.{Is, Refused}
 use Rattle.arith.specs.Refusals.{refusal}
-use Rattle.arith.specs.Formats.{Sound, is_infinite, pattern, sum, extended_sum, remainder}
+use Rattle.arith.specs.Formats.{Sound, pattern, sum, remainder}
 use Rattle.arith.specs.Exacts.{size_of}
-use Rattle.arith.specs.Sums.{mark_for, is_exact, finite_mark, mark_of, remainder_of, sum_is, sum_answer}
-use Rattle.arith.specs.Steps.{is_set, FiniteSigned, SignedNumber, ordinal_at, Represents, Exactly, Rounds, tested_of, answer_of, RangeTested, RoundedSum, LeftOver, short, past, IsSum}
-use Rattle.arith.proofs.Formats.{infinity_lt, wide}
+use Rattle.arith.specs.Sums.{is_finite_ordinal, mark_for, is_exact, mark_of, sum_is, in_range, sum_answer}
+use Rattle.arith.specs.Steps.{is_set, FiniteSigned, ordinal_at, Represents, Exactly, Rounds, tested_of, answer_of, RangeTested, RoundedSum, LeftOver, short, past, IsSum}
+use Rattle.arith.proofs.Formats.{infinity_lt}
 use Rattle.arith.proofs.Roundings.{same_eqb, rounded_m, rounded_exact}
 use Rattle.arith.proofs.Decoding.{signed_units}
 use Rattle.arith.proofs.Remainders.{left_short, left_past, other_sign, other_set, value_represents}
+
+and_no : (p q : Bool) → q ≡ false → (p && q) ≡ false
+and_no true q e = e
+and_no false q e = refl
 
 -- ---- m with the sign b, as an ordinal
 signed_low : (b : Bool) (m s i : ℕ) → m < i → i < s → s < cond b (s - m) (s + m) + i
@@ -66,39 +68,21 @@ module _ (F : Format) (ok : Sound F) where
   rounded_signed true n p q u d = omega (arith, ok.sign, ok.infinity, ap (round f) d, rounded_down f e ok.some p q (omega arith))
   rounded_signed false n p q u d = omega (arith, ok.sign, ok.infinity, ap (round f) u, rounded_up f e ok.some p q (omega arith))
 
-  -- ---- the answer for two finite floats with the sum y
-  answer_by : ℕ → ℕ → ℕ → Bool → Sum
-  answer_by x a y infinite = cond infinite (Is (pattern F y) 1 0) (Is (pattern F y) (finite_mark F x a y) (pattern F (remainder F x a y)))
+  -- ---- whether m with the sign b is a finite float's
+  finite_yes : (b : Bool) (m : ℕ) → m < F.infinity → is_finite_ordinal F (cond b (s - m) (s + m)) ≡ true
+  unfolding is_finite_ordinal
+  finite_yes b m h = ap₂ ◌&&◌ (lt-ltb _ _ (signed_low b m s F.infinity h (infinity_lt F ok))) (lt-ltb _ _ (signed_high b m s F.infinity h))
 
-  finite_answer : (x a : ℕ) → L.Finite f e x → L.Finite f e a → answer_by x a (sum F x a) (is_infinite F (sum F x a)) ≡ sum_answer F x a
-  unfolding sum_answer mark_of remainder_of answer_by
-  finite_answer x a X A =
-      let y = sum F x a in
-      sym
-      (ap (λ (c : Bool). cond (not c) (sum_is F x a (extended_sum F x a)) (Refused (refusal 14))) (apart_left f e ok.some (wide F ok) x a X)
-      ∙ ap (sum_is F x a) (extended_finite f e ok.some (wide F ok) x a X A)
-      ∙ ap₂ (λ (p q : Bool). Is (pattern F y) (cond (p || q) 0 (cond (is_infinite F y) 1 (finite_mark F x a y))) (cond (is_infinite F y) 0 (pattern F (remainder F x a y))))
-      (inf_finite f e ok.some (wide F ok) x X) (inf_finite f e ok.some (wide F ok) a A)
-      ∙ go (is_infinite F y) (pattern F y) (finite_mark F x a y) (pattern F (remainder F x a y)))
-    where
-      go : (c : Bool) (p k q : ℕ) → Is p (cond c 1 k) (cond c 0 q) ≡ cond c (Is p 1 0) (Is p k q)
-      go true p k q = refl
-      go false p k q = refl
-
-  -- infinity's m with the sign b
-  infinite_ordinal : (b : Bool) → is_infinite F (cond b (s - F.infinity) (s + F.infinity)) ≡ true
-  infinite_ordinal true = inf_bottom f e ok.some (wide F ok) (s - F.infinity) (omega (arith, ok.sign, ok.infinity, infinity_lt F ok))
-  infinite_ordinal false = inf_top f e ok.some (wide F ok) (s + F.infinity) (omega (arith, ok.sign, ok.infinity))
+  finite_no : (b : Bool) → is_finite_ordinal F (cond b (s - F.infinity) (s + F.infinity)) ≡ false
+  unfolding is_finite_ordinal
+  finite_no true = let l : s - F.infinity + F.infinity ≤ s = omega (arith, infinity_lt F ok) in ap (λ (z : Bool). z && ltb (s - F.infinity) (s + F.infinity)) (le-ltb _ _ l)
+  finite_no false = let l : s + F.infinity ≤ s + F.infinity = omega arith in and_no (ltb s (s + F.infinity + F.infinity)) (ltb (s + F.infinity) (s + F.infinity)) (le-ltb _ _ l)
 
   pub finite_ordinal : (z : Signed) → FiniteSigned F z → L.Finite f e (ordinal_at F z)
   finite_ordinal z h = record {
     low = omega (arith, ok.sign, ok.infinity, signed_low (is_set z.sign) z.m s F.infinity h.m (infinity_lt F ok));
     high = omega (arith, ok.sign, ok.infinity, signed_high (is_set z.sign) z.m s F.infinity h.m);
   }
-
--- a finite float is a number
-pub signed_number : {F : Format} {z : Signed} → FiniteSigned F z → SignedNumber F z
-signed_number h = record { sign = h.sign; m = omega (arith, h.m) }
 
 -- ---- the range test
 module _ (F : Format) (sign : ℕ) (r : Rounded) where
@@ -108,13 +92,13 @@ module _ (F : Format) (sign : ℕ) (r : Rounded) where
   pub test_over : F.infinity ≤ r.m → RangeTested F sign r (Overflow (sized F.infinity))
   test_over h = record {
     is = simp (le-leb F.infinity r.m h);
-    infinite = (λ e y l. magnitude_lt F.fraction y r.m (omega arith), λ p. refl);
+    refused = λ z. (λ e y l. magnitude_lt F.fraction y r.m (omega arith), λ p. refl);
   }
 
   pub test_in : (k : ℕ) → k ≡ mark_for F.fraction r.m r.exact → r.m < F.infinity → RangeTested F sign r (Finite (sized r.m) k)
   test_in k K h = record {
     is = ap (Finite (sized r.m)) K ∙ simp (lt-leb F.infinity r.m h);
-    infinite = (λ e. absurd (true≢false (sym e)), λ p. absurd (omega (arith, p r.m h)));
+    refused = λ z. (λ e. let z : ◌≡◌ {A = ℕ} 0 1 = cc in absurd (omega arith), λ p. absurd (omega (arith, p r.m h)));
   }
 
 -- ---- the three steps: t is the exact sum of x and a, and r that sum rounded
@@ -150,8 +134,8 @@ module _ (F : Format) (x a : ℕ) (t : ExactSum) (g : Rounding) (ok : Sound F) (
       ap (λ (z : ℕ). ordinal_at F (at z)) (h ∙ ap (λ (z : ℕ). min z i) (rounded_m fraction n r R.is))
       ∙ sym (rounded_signed F ok b n (gains fraction exponent x a) (losses fraction exponent x a) T.amounts.up T.amounts.down)
 
-  mark_is : r.m < i → mark_for fraction r.m r.exact ≡ finite_mark F x a (ordinal_at F (at r.m))
-  unfolding finite_mark is_exact
+  mark_is : r.m < i → mark_for fraction r.m r.exact ≡ mark_of F x a (ordinal_at F (at r.m))
+  unfolding mark_of is_exact
   mark_is h =
       let l : r.m ≤ F.sign = omega (arith, infinity_lt F ok) in
       let u = signed_units F ok (at r.m) (omega arith) in
@@ -166,12 +150,9 @@ module _ (F : Format) (x a : ℕ) (t : ExactSum) (g : Rounding) (ok : Sound F) (
   rounded_sum = record { sound = ok; sign = T.sign; roundable = record { fraction = (ok.some, ok.few); shaped = T.amounts.shaped; low = T.amounts.low }; rounds = R }
 
   -- ---- an overflow
-  over_answer : L.Finite fraction exponent x → L.Finite fraction exponent a → ordinal_at F (at i) ≡ y → Is (pattern F (ordinal_at F (at i))) 1 0 ≡ sum_answer F x a
-  unfolding answer_by
-  over_answer X A o =
-      ap (λ (p : ℕ). Is (pattern F p) 1 0) o
-      ∙ sym (ap (answer_by F ok x a y) (ap (is_infinite F) (sym o) ∙ infinite_ordinal F ok b))
-      ∙ finite_answer F ok x a X A
+  over_answer : (o : ℕ) → o ≡ y → is_finite_ordinal F o ≡ false → Refused (refusal 9) ≡ sum_answer F x a
+  unfolding in_range
+  over_answer o O N = sym (ap (λ (z : Bool). cond z (sum_is F x a y) (Refused (refusal 9))) (ap (is_finite_ordinal F) (sym O) ∙ N))
 
   -- ---- in range
   module _ (h : r.m < i) where
@@ -204,37 +185,34 @@ module _ (F : Format) (x a : ℕ) (t : ExactSum) (g : Rounding) (ok : Sound F) (
               (rw (other, other_set F ok t.sign T.sign) (left_past b n v w _ _ _ _ T.amounts.up T.amounts.down N whole))
         ]
 
-    in_answer : L.Finite fraction exponent x → L.Finite fraction exponent a → (z : Signed) → ordinal_at F z ≡ remainder F x a y →
-        answer_of F (Finite (at r.m) (mark_for fraction r.m r.exact)) z ≡ sum_answer F x a
-    unfolding answer_by
-    in_answer X A z Z =
-        let Y : L.Finite fraction exponent y = subst (L.Finite fraction exponent) o (finite_ordinal F ok (at r.m) fits) in
+    in_answer : (z : Signed) → ordinal_at F z ≡ remainder F x a y → answer_of F (Finite (at r.m) (mark_for fraction r.m r.exact)) z ≡ sum_answer F x a
+    unfolding in_range
+    in_answer z Z =
         ap₂ (λ (k q : ℕ). Is (pattern F (ordinal_at F (at r.m))) k (pattern F q)) (mark_is h) Z
-        ∙ ap (λ (p : ℕ). Is (pattern F p) (finite_mark F x a p) (pattern F (remainder F x a y))) o
-        ∙ sym (ap (answer_by F ok x a y) (inf_finite fraction exponent ok.some (wide F ok) y Y))
-        ∙ finite_answer F ok x a X A
+        ∙ ap (λ (p : ℕ). Is (pattern F p) (mark_of F x a p) (pattern F (remainder F x a y))) o
+        ∙ sym (ap (λ (c : Bool). cond c (sum_is F x a y) (Refused (refusal 9))) (ap (is_finite_ordinal F) (sym o) ∙ finite_yes F ok b r.m h))
 
   -- the sum by its steps
   abbrev made : Tested → Addition
   made v = record { exact = t; rounding = g; tested = v }
 
-  overflowed : (v : Tested) → L.Finite fraction exponent x → L.Finite fraction exponent a → i ≤ r.m → IsSum F x a (made v) (Overflow (at i))
-  overflowed v X A h =
+  overflowed : (v : Tested) → i ≤ r.m → IsSum F x a (made v) (Overflow (at i))
+  overflowed v h =
       let o = sum_is_lem i (omega arith) in
-      record { rounded = rounded_sum; within = record { sign = T.sign; m = omega arith }; ordinal = o; answer = over_answer X A o }
+      record { rounded = rounded_sum; within = refl; ordinal = o; answer = over_answer (ordinal_at F (at i)) o (finite_no F ok b) }
 
-  in_range : (v : Tested) → L.Finite fraction exponent x → L.Finite fraction exponent a → (h : r.m < i) → IsSum F x a (made v) (Finite (at r.m) (mark_for fraction r.m r.exact))
-  in_range v X A h = record {
+  in_range_lem : (v : Tested) → L.Finite fraction exponent x → L.Finite fraction exponent a → (h : r.m < i) → IsSum F x a (made v) (Finite (at r.m) (mark_for fraction r.m r.exact))
+  in_range_lem v X A h = record {
     rounded = rounded_sum;
     within = fits h;
     ordinal = o h;
-    answer = λ z left. let Z = remainder_is h X A z left in record { finite = Z.finite; is = in_answer h X A z Z.ordinal };
+    answer = λ z left. let Z = remainder_is h X A z left in record { finite = Z.finite; is = in_answer h z Z.ordinal };
   }
 
   pub steps_sum : (v : Tested) → L.Finite fraction exponent x → L.Finite fraction exponent a → v ≡ tested_of F t.sign r → IsSum F x a (made v) v
   steps_sum v X A P = elim (le_or_lt i r.m) [
-    | inl h ↦ subst (IsSum F x a (made v)) (sym (P ∙ simp (le-leb i r.m h))) (overflowed v X A h)
-    | inr h ↦ subst (IsSum F x a (made v)) (sym (P ∙ simp (lt-leb i r.m h))) (in_range v X A h)
+    | inl h ↦ subst (IsSum F x a (made v)) (sym (P ∙ simp (le-leb i r.m h))) (overflowed v h)
+    | inr h ↦ subst (IsSum F x a (made v)) (sym (P ∙ simp (lt-leb i r.m h))) (in_range_lem v X A h)
   ]
 
 -- the same of the ordinals that the operands stand for, by the case v that was matched

@@ -1,7 +1,7 @@
 -- What a crate above needs of intervals, so that it opens no definition here: when one is refused, its ordinals, its written form, its mirror, the cut of two, and the narrowing of three and of two. Rests on `ladder`'s laws of ordinals.
 use Rattle.std.proofs.Common.{◌≡◌, ℕ, suc, ◌<◌, ◌≤◌, min, max, Bool, true, false, cond, leb, sym, refl, ap, arith, le-leb, leb-true}
 use Rattle.ladder.specs.Solution as L
-use Rattle.ladder.specs.Solution.{Numbers}
+use Rattle.ladder.specs.Solution.{Bounded}
 use Rattle.ladder.specs.Search.{reflection}
 use Rattle.ladder.proofs.Ordinals.{ordinal_pattern}
 use Rattle.arith.specs.declared.refusal.Refusal.{Refusal}
@@ -12,17 +12,17 @@ use Rattle.arith.specs.declared.interval.Image.{Image}
 use Rattle.arith.specs.declared.interval.Image.TheVariants.{Is, Refused}
 use Rattle.arith.specs.Refusals.{refusal, or_refuse}
 use Rattle.arith.specs.Formats.{is_known, format_of}
-use Rattle.arith.specs.Intervals.{Valid, ends_number, is_ordered, range_of, interval_of, mirrored_ends, canonical_in, canonical_of, shared_in, cut_in, cut_of, mirror_in, mirror_of, span}
+use Rattle.arith.specs.Intervals.{Valid, ends_finite, is_ordered, range_of, interval_of, mirrored_ends, canonical_in, canonical_of, shared_in, cut_in, cut_of, mirror_in, mirror_of, span}
 use Rattle.arith.specs.Narrows.{narrowing, written, narrow_answer, narrow_of}
-use Rattle.arith.specs.Repeats.{Relation, pair_answer, pair_in, pair_of, still, still_answer, still_in, still_of}
+use Rattle.arith.specs.Repeats.{Relation, pair_answer, pair_in, pair_of}
 use Rattle.arith.proofs.Intervals.{range_ends, mirrored_ends_lem}
-use Rattle.arith.proofs.Callers.{narrow_valid, written_number}
+use Rattle.arith.proofs.Callers.{narrow_valid, written_finite}
 
 -- ---- its canonical form
 module _ (width : ℕ) (I : Interval) where
   pub canonical_is : Valid width I → canonical_of width I ≡ Is (interval_of (format_of width) (range_of (format_of width) I))
   unfolding canonical_of canonical_in
-  canonical_is v = simp (v.known, v.numbers, v.ordered)
+  canonical_is v = simp (v.known, v.finite, v.ordered)
 
   data Tried : Image → Type 0 where
     is : {J : Interval} → Valid width I → Tried (Is J)
@@ -30,15 +30,15 @@ module _ (width : ℕ) (I : Interval) where
 
   tried : Tried (canonical_of width I)
   unfolding canonical_of canonical_in
-  tried = go (is_known width) refl (ends_number (format_of width) I) refl (is_ordered (range_of (format_of width) I)) refl
+  tried = go (is_known width) refl (ends_finite (format_of width) I) refl (is_ordered (range_of (format_of width) I)) refl
     where
       go :
-          (k : Bool) → is_known width ≡ k → (t : Bool) → ends_number (format_of width) I ≡ t → (o : Bool) → is_ordered (range_of (format_of width) I) ≡ o →
+          (k : Bool) → is_known width ≡ k → (t : Bool) → ends_finite (format_of width) I ≡ t → (o : Bool) → is_ordered (range_of (format_of width) I) ≡ o →
           Tried (or_refuse Refused k 1 (or_refuse Refused t 2 (or_refuse Refused o 3 (Is (interval_of (format_of width) (range_of (format_of width) I))))))
       go false p t q o r = refused {n = 0} (omega arith)
       go true p false q o r = refused {n = 1} (omega arith)
       go true p true q false r = refused {n = 2} (omega arith)
-      go true p true q true r = is (record { known = p; numbers = q; ordered = r })
+      go true p true q true r = is (record { known = p; finite = q; ordered = r })
 
   -- what is not refused is valid
   pub is_valid : (J : Interval) → canonical_of width I ≡ Is J → Valid width I
@@ -59,24 +59,24 @@ module _ (width : ℕ) (I : Interval) where
           (omega arith, omega arith)
 
 -- ---- by ordinals
--- a valid interval has numbers for its ends, low not above high
-pub valid_numbers : (width : ℕ) (I : Interval) → Valid width I → Numbers (format_of width).fraction (format_of width).exponent (span (range_of (format_of width) I)) × ((range_of (format_of width) I).low ≤ (range_of (format_of width) I).high)
+-- a valid interval has finite ends, low not above high
+pub valid_bounded : (width : ℕ) (I : Interval) → Valid width I → Bounded (format_of width).fraction (format_of width).exponent (span (range_of (format_of width) I)) × ((range_of (format_of width) I).low ≤ (range_of (format_of width) I).high)
 unfolding is_ordered
-valid_numbers width I v = (range_ends (format_of width) I (range_of (format_of width) I) refl v.numbers, leb-true _ _ v.ordered)
+valid_bounded width I v = (range_ends (format_of width) I (range_of (format_of width) I) refl v.finite, leb-true _ _ v.ordered)
 
 -- its mirror by patterns is the one by ordinals
 pub mirrored_written :
     (width : ℕ) (I : Interval) → Valid width I →
     mirrored_ends (format_of width) I ≡ written (format_of width) (reflection (format_of width).fraction (format_of width).exponent (span (range_of (format_of width) I)))
-mirrored_written width I v = mirrored_ends_lem (format_of width) I v.numbers
+mirrored_written width I v = mirrored_ends_lem (format_of width) I v.finite
 
 -- and it is what `mirror` gives
 pub valid_mirror : (width : ℕ) (I : Interval) → Valid width I → mirror_of width I ≡ Is (mirrored_ends (format_of width) I)
 unfolding mirror_of mirror_in
-valid_mirror width I v = simp (v.known, v.numbers, v.ordered) (ap Is (sym (mirrored_written width I v)))
+valid_mirror width I v = simp (v.known, v.finite, v.ordered) (ap Is (sym (mirrored_written width I v)))
 
-module _ (width : ℕ) (I : L.Interval) (b : Numbers (format_of width).fraction (format_of width).exponent I) where
-  -- the patterns of numbers lead back to them
+module _ (width : ℕ) (I : L.Interval) (b : Bounded (format_of width).fraction (format_of width).exponent I) where
+  -- the patterns of finite ends lead back to them
   pub written_span : span (range_of (format_of width) (written (format_of width) I)) ≡ I
   written_span =
       let l = ordinal_pattern (format_of width).fraction (format_of width).exponent I.low b.low in
@@ -91,7 +91,7 @@ module _ (width : ℕ) (I : L.Interval) (b : Numbers (format_of width).fraction 
       let e = (format_of width).exponent in
       record {
         known = k;
-        numbers = written_number (format_of width) I b;
+        finite = written_finite (format_of width) I b;
         ordered = rw (ordinal_pattern f e I.low b.low, ordinal_pattern f e I.high b.high) (le-leb _ _ o);
       }
 
@@ -108,22 +108,17 @@ pub valid_cut :
     (width : ℕ) (I J : Interval) → Valid width I → Valid width J →
     cut_of width I J ≡ cut_answer width (shared (span (range_of (format_of width) I)) (span (range_of (format_of width) J)))
 unfolding cut_of cut_in shared_in is_ordered
-valid_cut width I J u v = simp (u.known, u.numbers, v.numbers, u.ordered, v.ordered)
+valid_cut width I J u v = simp (u.known, u.finite, v.finite, u.ordered, v.ordered)
 
 -- ---- the narrowing of three
 pub valid_narrow :
     (width : ℕ) (x a b : Interval) → Valid width x → Valid width a → Valid width b →
     narrow_of width x a b ≡ narrow_answer (format_of width) (narrowing (format_of width) (range_of (format_of width) x) (range_of (format_of width) a) (range_of (format_of width) b))
-valid_narrow width x a b u v w = narrow_valid width x a b u.known u.numbers v.numbers w.numbers u.ordered v.ordered w.ordered
+valid_narrow width x a b u v w = narrow_valid width x a b u.known u.finite v.finite w.finite u.ordered v.ordered w.ordered
 
--- ---- the narrowing of two, by any relation
+-- ---- the narrowing of two, by either relation
 pub valid_pair :
     (by : Relation) (width : ℕ) (i j : Interval) → Valid width i → Valid width j →
     pair_of by width i j ≡ pair_answer (format_of width) (by (format_of width) (range_of (format_of width) i) (range_of (format_of width) j))
 unfolding pair_of pair_in
-valid_pair by width i j u v = simp (u.known, u.numbers, v.numbers, u.ordered, v.ordered)
-
--- ---- what of one is its own double
-pub valid_still : (width : ℕ) (i : Interval) → Valid width i → still_of width i ≡ still_answer (format_of width) (still (format_of width) (range_of (format_of width) i))
-unfolding still_of still_in
-valid_still width i u = simp (u.known, u.numbers, u.ordered)
+valid_pair by width i j u v = simp (u.known, u.finite, v.finite, u.ordered, v.ordered)

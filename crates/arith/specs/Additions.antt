@@ -1,5 +1,5 @@
 -- What the forward sum promises, entire: the answer as defined, the reply that it tells, and 02's sentences on the remainder, by patterns. Assumes nothing.
-use Rattle.std.specs.Prelude.{◌≡◌, ℕ, ◌+◌, true, false, ◌↔◌}
+use Rattle.std.specs.Prelude.{◌≡◌, ℕ, ◌+◌, true, ◌↔◌}
 use Rattle.ladder.specs.Ordinal.{canonical}
 use Rattle.ladder.specs.Values.{units_above, units_below}
 use Rattle.arith.specs.declared.format.Format.{Format}
@@ -20,14 +20,13 @@ both_below F p q = units_below F.fraction F.exponent p + units_below F.fraction 
 
 -- the sum p of the patterns x and a, with its mark, leaves the remainder r
 pub record Remains (F : Format) (x a p mark r : ℕ) : Type 0 where
-  -- of a finite sum: exact x plus exact a is p plus r, with nothing lost; and r is zero exactly where the mark is 0
-  pub whole : is_finite F p ≡ true → both_above F x a + both_below F p r ≡ both_above F p r + both_below F x a
-  pub zero : is_finite F p ≡ true → (r ≡ 0) ↔ (mark ≡ 0)
-  -- of an infinite one: zero
-  pub none : is_finite F p ≡ false → r ≡ 0
+  -- exact x plus exact a is p plus r: nothing is lost
+  pub whole : both_above F x a + both_below F p r ≡ both_above F p r + both_below F x a
   -- r is a finite float, in its one pattern
   pub finite : is_finite F r ≡ true
   pub written : canonical F.fraction F.exponent r ≡ r
+  -- it is zero exactly where the mark is 0
+  pub zero : (r ≡ 0) ↔ (mark ≡ 0)
 
 -- whenever the answer is a sum, it comes with its remainder; a refusal has none
 abbrev pub LeavesRemainder : ℕ → ℕ → ℕ → Sum → Type 0

@@ -3,7 +3,6 @@ use Rattle.std.specs.Prelude.{◌≡◌, ℕ, ◌^◌, ◌≤◌, Bool, cond, �
 use Rattle.ladder.specs.Ordinal as L
 use Rattle.ladder.specs.Sum as S
 use Rattle.ladder.specs.Remainder as R
-use Rattle.ladder.specs.Extended as E
 use Rattle.arith.specs.declared.format.Format.{Format}
 
 -- the format with f fraction bits and e exponent bits
@@ -21,7 +20,6 @@ format_of width = cond (width == 32) (binary 23 8) (binary 52 11)
 -- what the functions inside the crate need of a format: its numbers are those of its bits, and its patterns fit a word
 pub record Sound (F : Format) : Type 0 where
   pub some : 1 ≤ F.fraction
-  pub wide : 1 ≤ F.exponent
   pub few : F.fraction ≤ 52
   pub sign : F.sign ≡ L.sign F.fraction F.exponent
   pub infinity : F.infinity ≡ L.infinity F.fraction F.exponent
@@ -30,10 +28,6 @@ pub record Sound (F : Format) : Type 0 where
 -- whether a pattern is finite in the format
 abbrev pub is_finite : Format → ℕ → Bool
 is_finite F p = L.is_finite F.fraction F.exponent p
-
--- whether a pattern is a number's in the format: finite or an infinity's
-abbrev pub is_number : Format → ℕ → Bool
-is_number F p = L.is_number F.fraction F.exponent p
 
 -- the ordinal of a pattern: 01's place, shifted into the naturals
 abbrev pub ordinal : Format → ℕ → ℕ
@@ -51,23 +45,7 @@ negated F p = L.negated F.fraction F.exponent p
 abbrev pub Finite : Format → ℕ → Type 0
 Finite F r = L.Finite F.fraction F.exponent r
 
--- r is the ordinal of a number of the format
-abbrev pub Number : Format → ℕ → Type 0
-Number F r = L.Number F.fraction F.exponent r
-
--- whether a number's ordinal is an infinity's
-abbrev pub is_infinite : Format → ℕ → Bool
-is_infinite F r = E.is_infinite F.fraction F.exponent r
-
--- whether two ordinals are opposite infinities
-abbrev pub opposite : Format → ℕ → ℕ → Bool
-opposite F x a = E.opposite F.fraction F.exponent x a
-
--- x ⊕ a of two numbers, on ordinals
-abbrev pub extended_sum : Format → ℕ → ℕ → ℕ
-extended_sum F x a = E.extended_sum F.fraction F.exponent x a
-
--- x ⊕ a of two finite floats, on ordinals
+-- x ⊕ a on ordinals
 abbrev pub sum : Format → ℕ → ℕ → ℕ
 sum F x a = S.sum F.fraction F.exponent x a
 

@@ -1,5 +1,5 @@
 -- 01's intervals of patterns, and the whole answers of their cut, shift and mirror, refusals in their order. Assumes nothing.
-use Rattle.std.specs.Prelude.{◌≡◌, ℕ, min, max, Bool, true, cond, not, ◌&&◌, nat_le}
+use Rattle.std.specs.Prelude.{◌≡◌, ℕ, min, max, Bool, true, cond, ◌&&◌, nat_le}
 use Rattle.ladder.specs.Solution as L
 use Rattle.arith.specs.declared.format.Format.{Format}
 use Rattle.arith.specs.declared.range.Range.{Range}
@@ -10,11 +10,12 @@ use Rattle.arith.specs.declared.interval.Cut.TheVariants as Cut
 use Rattle.arith.specs.declared.interval.Image.{Image}
 use Rattle.arith.specs.declared.interval.Image.TheVariants as Image
 use Rattle.arith.specs.Refusals.{or_refuse}
-use Rattle.arith.specs.Formats.{is_known, format_of, is_number, opposite, ordinal, pattern, negated, extended_sum, mirrored}
+use Rattle.arith.specs.Formats.{is_known, format_of, is_finite, ordinal, pattern, negated, sum, mirrored}
+use Rattle.arith.specs.Sums.{is_finite_ordinal}
 
--- refusal 2 for low, then high: both are numbers
-unfoldable pub ends_number : Format → Interval → Bool
-ends_number F I = is_number F I.low && is_number F I.high
+-- refusal 2 for low, then high
+unfoldable pub ends_finite : Format → Interval → Bool
+ends_finite F I = is_finite F I.low && is_finite F I.high
 
 -- the ends of an interval by their ordinals
 abbrev pub range_of : Format → Interval → Range
@@ -28,10 +29,6 @@ interval_of F R = record { low = pattern F R.low; high = pattern F R.high }
 abbrev pub span : Range → L.Interval
 span R = record { low = R.low; high = R.high }
 
--- both ends are numbers
-abbrev pub Numbers : Format → Range → Type 0
-Numbers F R = L.Numbers F.fraction F.exponent (span R)
-
 -- both ends are finite
 abbrev pub Bounded : Format → Range → Type 0
 Bounded F R = L.Bounded F.fraction F.exponent (span R)
@@ -43,7 +40,7 @@ is_ordered R = nat_le R.low R.high
 -- 01's interval: none of refusals 1 to 3 applies to it
 pub record Valid (width : ℕ) (I : Interval) : Type 0 where
   pub known : is_known width ≡ true
-  pub numbers : ends_number (format_of width) I ≡ true
+  pub finite : ends_finite (format_of width) I ≡ true
   pub ordered : is_ordered (range_of (format_of width) I) ≡ true
 
 -- what two ranges share
@@ -56,7 +53,7 @@ shared_in F R = cond (is_ordered R) (Shared (interval_of F R)) Empty
 
 -- from low ⊕ c to high ⊕ c, on ordinals
 abbrev pub translated : Format → Range → ℕ → Range
-translated F R c = record { low = extended_sum F R.low c; high = extended_sum F R.high c }
+translated F R c = record { low = sum F R.low c; high = sum F R.high c }
 
 -- from -high to -low, on ordinals
 abbrev pub reflected : Format → Range → Range
@@ -70,38 +67,38 @@ mirrored_ends F I = record { low = negated F I.high; high = negated F I.low }
 -- canonical: 2 for low, high; 3
 unfoldable pub canonical_in : Format → Interval → Image
 canonical_in F I =
-    or_refuse Image.Refused (ends_number F I) 2
+    or_refuse Image.Refused (ends_finite F I) 2
     (or_refuse Image.Refused (is_ordered (range_of F I)) 3
     (Image.Is (interval_of F (range_of F I))))
 
 -- cut: 2 for the own low, high, then the second interval's; 3 for the own, then the second
 unfoldable pub cut_in : Format → Interval → Interval → Cut
 cut_in F I J =
-    or_refuse Cut.Refused (ends_number F I) 2
-    (or_refuse Cut.Refused (ends_number F J) 2
+    or_refuse Cut.Refused (ends_finite F I) 2
+    (or_refuse Cut.Refused (ends_finite F J) 2
     (or_refuse Cut.Refused (is_ordered (range_of F I)) 3
     (or_refuse Cut.Refused (is_ordered (range_of F J)) 3
     (shared_in F (common (range_of F I) (range_of F J))))))
 
--- an interval moved by c, or refusal 14 if low, then high, is the infinity opposite to c
-unfoldable pub moved_in : Format → Range → ℕ → Image
-moved_in F R c =
-    or_refuse Image.Refused (not (opposite F R.low c)) 14
-    (or_refuse Image.Refused (not (opposite F R.high c)) 14
-    (Image.Is (interval_of F (translated F R c))))
+-- an interval moved, or refusal 9 if an end has no finite sum
+unfoldable pub moved_in : Format → Range → Image
+moved_in F R =
+    or_refuse Image.Refused (is_finite_ordinal F R.low) 9
+    (or_refuse Image.Refused (is_finite_ordinal F R.high) 9
+    (Image.Is (interval_of F R)))
 
--- shift: 2 for the own low, high, then c; 3; 14 for low, then high
+-- shift: 2 for the own low, high, then c; 3; 9
 unfoldable pub shift_in : Format → Interval → ℕ → Image
 shift_in F I c =
-    or_refuse Image.Refused (ends_number F I) 2
-    (or_refuse Image.Refused (is_number F c) 2
+    or_refuse Image.Refused (ends_finite F I) 2
+    (or_refuse Image.Refused (is_finite F c) 2
     (or_refuse Image.Refused (is_ordered (range_of F I)) 3
-    (moved_in F (range_of F I) (ordinal F c))))
+    (moved_in F (translated F (range_of F I) (ordinal F c)))))
 
 -- mirror: 2 for low, high; 3
 unfoldable pub mirror_in : Format → Interval → Image
 mirror_in F I =
-    or_refuse Image.Refused (ends_number F I) 2
+    or_refuse Image.Refused (ends_finite F I) 2
     (or_refuse Image.Refused (is_ordered (range_of F I)) 3
     (Image.Is (interval_of F (reflected F (range_of F I)))))
 
@@ -114,7 +111,7 @@ canonical_of width I = or_refuse Image.Refused (is_known width) 1 (canonical_in 
 unfoldable pub cut_of : ℕ → Interval → Interval → Cut
 cut_of width I J = or_refuse Cut.Refused (is_known width) 1 (cut_in (format_of width) I J)
 
--- shift: 1; 2 for the own low, high, then c; 3; 14 for low, then high
+-- shift: 1; 2 for the own low, high, then c; 3; 9
 unfoldable pub shift_of : ℕ → Interval → ℕ → Image
 shift_of width I c = or_refuse Image.Refused (is_known width) 1 (shift_in (format_of width) I c)
 

@@ -1,34 +1,24 @@
--- What the functions that narrow a sum with one number in two places take and answer, by `ladder`'s definitions at a format. For contracts inside the crate; no public one cites it. Assumes nothing.
-use Rattle.std.specs.Prelude.{◌≡◌, ℕ, ◌+◌, ◌-◌, ◌<◌, ◌≤◌, min, max, Bool, false, T}
-use Rattle.ladder.specs.Solution.{In}
+-- What the functions that narrow a sum with one float in two places take and answer, by `ladder`'s definitions at a format. For contracts inside the crate; no public one cites it. Assumes nothing.
+use Rattle.std.specs.Prelude.{◌≡◌, ℕ, ◌+◌, ◌-◌, ◌<◌, ◌≤◌, min, max, Bool, false}
 use Rattle.ladder.specs.Halves as H
 use Rattle.ladder.specs.Absorption as K
 use Rattle.ladder.specs.Pairing as P
 use Rattle.ladder.specs.Pairing.{Pairing, none, ends}
 use Rattle.arith.specs.declared.format.Format.{Format}
 use Rattle.arith.specs.declared.range.Range.{Range}
-use Rattle.arith.specs.declared.pairs.Couple.{Couple}
-use Rattle.arith.specs.declared.pairs.Couple.TheVariants as Couple
-use Rattle.arith.specs.declared.pairs.Repeat.{Repeat}
-use Rattle.arith.specs.declared.pairs.Repeat.TheVariants as Repeat
-use Rattle.ladder.specs.Extended as E
-use Rattle.arith.specs.Formats.{Sound, Finite, Number}
-use Rattle.arith.specs.Intervals.{Bounded, Numbers, span}
-use Rattle.arith.specs.Searches.{Held}
-use Rattle.arith.specs.Repeats.{Relation, doubling, absorbing, cancelling, halving}
+use Rattle.arith.specs.declared.repeated.Couple.{Couple}
+use Rattle.arith.specs.declared.repeated.Couple.TheVariants as Couple
+use Rattle.arith.specs.declared.repeated.Repeat.{Repeat}
+use Rattle.arith.specs.declared.repeated.Repeat.TheVariants as Repeat
+use Rattle.arith.specs.Formats.{Sound, Finite, sum}
+use Rattle.arith.specs.Intervals.{Bounded, span}
+use Rattle.arith.specs.Repeats.{Relation, doubling, absorbing}
 
 -- ---- what is narrowed
 -- the relation that a word for it names
 abbrev pub relation_of : Repeat → Relation
 relation_of Repeat.Doubles = doubling
 relation_of Repeat.Absorbs = absorbing
-relation_of Repeat.Cancels = cancelling
-relation_of Repeat.Halves = halving
-
--- a number's ordinal in a sound format
-pub record NumberAt (F : Format) (x : ℕ) : Type 0 where
-  pub sound : Sound F
-  pub number : Number F x
 
 -- a finite ordinal of a sound format
 pub record FiniteAt (F : Format) (x : ℕ) : Type 0 where
@@ -46,50 +36,31 @@ pub record BothFilled (F : Format) (P Q : Range) : Type 0 where
   pub first : Filled F P
   pub second : Filled F Q
 
--- two ranges of numbers
-pub record BothHeld (F : Format) (P Q : Range) : Type 0 where
-  pub first : Held F P
-  pub second : Held F Q
-
 -- the narrowing of ranges, as ladder's
 abbrev pub coupled : Couple → Pairing
 coupled Couple.None = none
 coupled (Couple.Ends P Q) = ends (span P) (span Q)
 
--- the ends of what was found are numbers
-abbrev pub NumberEnds : Format → Couple → Type 0
-NumberEnds F Couple.None = Unit
-NumberEnds F (Couple.Ends P Q) = Numbers F P × Numbers F Q
+-- the ends of what was found are finite
+abbrev pub FiniteEnds : Format → Couple → Type 0
+FiniteEnds F Couple.None = Unit
+FiniteEnds F (Couple.Ends P Q) = Bounded F P × Bounded F Q
 
 -- ---- x ⊕ x = b
--- the numbers whose double is at least b are those from x on
+-- the values whose double is at least b are those from x on
 abbrev pub LeastHalf : Format → ℕ → ℕ → Type 0
 LeastHalf F b x = H.LeastHalf F.fraction F.exponent b x
 
--- the numbers whose double is at most b are those up to x
+-- x has a finite double
+abbrev pub Doublable : Format → ℕ → Type 0
+Doublable F x = FiniteAt F (sum F x x)
+
+-- the values whose double is at most b are those up to x
 abbrev pub GreatestHalf : Format → ℕ → ℕ → Type 0
 GreatestHalf F b x = H.GreatestHalf F.fraction F.exponent b x
 
--- ---- x ⊕ x = x
--- y inside X is its own double
-pub record Still (F : Format) (X : Range) (y : ℕ) : Type 0 where
-  pub inside : In (span X) y
-  pub own : T (E.makes F.fraction F.exponent y y y)
-
 -- ---- x ⊕ a = x
--- of finite floats
-abbrev pub finite_absorbing : Relation
-finite_absorbing F X A = P.pairing (P.absorbs F.fraction F.exponent) (span X) (span A)
-
--- the upper infinity of a range of numbers
-abbrev pub upper_end : Format → Range → Range
-upper_end F R = record { low = max R.low (E.top F.fraction F.exponent); high = R.high }
-
--- the lower one
-abbrev pub lower_end : Format → Range → Range
-lower_end F R = record { low = R.low; high = min R.high (E.bottom F.fraction F.exponent) }
-
--- whether a finite x absorbs a
+-- whether x absorbs a
 abbrev pub absorbs : Format → ℕ → ℕ → Bool
 absorbs F x a = P.absorbs F.fraction F.exponent x a
 

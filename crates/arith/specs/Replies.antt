@@ -1,17 +1,17 @@
 -- 01's replies that are due: its tests in their order, then the values. The contracts of the public functions say that an answer tells the reply due. Assumes nothing.
-use Rattle.std.specs.Prelude.{ℕ, Bool, true, false, cond, not, List, [], ◌∷◌, ◌++◌}
-use Rattle.ladder.specs.Narrowing.{Narrowing, none, ends, Extent, empty, over}
+use Rattle.std.specs.Prelude.{ℕ, Bool, true, false, cond, List, [], ◌∷◌, ◌++◌}
+use Rattle.ladder.specs.Narrowing.{Narrowing, none, ends}
 use Rattle.ladder.specs.Pairing as P
 use Rattle.ladder.specs.Pairing.{Pairing}
 use Rattle.arith.specs.declared.refusal.Refusal.{Refusal}
 use Rattle.arith.specs.declared.range.Range.{Range}
 use Rattle.arith.specs.declared.interval.Interval.{Interval}
 use Rattle.arith.specs.Refusals.{refusal}
-use Rattle.arith.specs.Formats.{is_known, format_of, is_number, opposite, ordinal, pattern, extended_sum}
-use Rattle.arith.specs.Sums.{mark_of, remainder_of}
-use Rattle.arith.specs.Intervals.{ends_number, range_of, interval_of, is_ordered, common, translated, reflected}
+use Rattle.arith.specs.Formats.{is_known, format_of, is_finite, ordinal, pattern, sum, remainder}
+use Rattle.arith.specs.Sums.{is_finite_ordinal, mark_of}
+use Rattle.arith.specs.Intervals.{ends_finite, range_of, interval_of, is_ordered, common, translated, reflected}
 use Rattle.arith.specs.Narrows.{narrowing, written}
-use Rattle.arith.specs.Repeats.{Relation, still}
+use Rattle.arith.specs.Repeats.{Relation}
 use Rattle.arith.specs.Answers.{Reply, gives, refuses, two_ends}
 
 -- ---- tests
@@ -29,12 +29,12 @@ abbrev pub known : ℕ → Test
 known width = (is_known width, refusal 1)
 
 -- 2: a pattern
-abbrev pub number : ℕ → ℕ → Test
-number width p = (is_number (format_of width) p, refusal 2)
+abbrev pub finite : ℕ → ℕ → Test
+finite width p = (is_finite (format_of width) p, refusal 2)
 
 -- 2: low, then high
-abbrev pub both_numbers : ℕ → Interval → Test
-both_numbers width I = (ends_number (format_of width) I, refusal 2)
+abbrev pub both_finite : ℕ → Interval → Test
+both_finite width I = (ends_finite (format_of width) I, refusal 2)
 
 -- an interval by the ordinals of its ends
 abbrev pub ordinals : ℕ → Interval → Range
@@ -44,9 +44,9 @@ ordinals width I = range_of (format_of width) I
 abbrev pub ordered : ℕ → Interval → Test
 ordered width I = (is_ordered (ordinals width I), refusal 3)
 
--- 14: two numbers, by their ordinals, that are not opposite infinities
-abbrev pub summable : ℕ → ℕ → ℕ → Test
-summable width x a = (not (opposite (format_of width) x a), refusal 14)
+-- 9: a sum, by its ordinal
+abbrev pub finite_sum : ℕ → ℕ → Test
+finite_sum width s = (is_finite_ordinal (format_of width) s, refusal 9)
 
 -- 11: a triple
 abbrev pub solved : Narrowing → Test
@@ -61,18 +61,18 @@ paired (P.ends X A) = (true, refusal 11)
 -- ---- the forward sum
 -- x ⊕ a, by its ordinal
 abbrev pub sum_of : ℕ → ℕ → ℕ → ℕ
-sum_of width x a = let F = format_of width in extended_sum F (ordinal F x) (ordinal F a)
+sum_of width x a = let F = format_of width in sum F (ordinal F x) (ordinal F a)
 
--- 1; 2 for x, then a; 14
+-- 1; 2 for x, then a; 9
 abbrev pub add_tests : ℕ → ℕ → ℕ → List Test
-add_tests width x a = let F = format_of width in known width ∷ number width x ∷ number width a ∷ summable width (ordinal F x) (ordinal F a) ∷ []
+add_tests width x a = known width ∷ finite width x ∷ finite width a ∷ finite_sum width (sum_of width x a) ∷ []
 
 -- its pattern, its mark, and the pattern of what it leaves over
 abbrev pub add_values : ℕ → ℕ → ℕ → List ℕ
 add_values width x a =
     let F = format_of width in
     let s = sum_of width x a in
-    pattern F s ∷ mark_of F (ordinal F x) (ordinal F a) s ∷ remainder_of F (ordinal F x) (ordinal F a) s ∷ []
+    pattern F s ∷ mark_of F (ordinal F x) (ordinal F a) s ∷ pattern F (remainder F (ordinal F x) (ordinal F a) s) ∷ []
 
 -- ---- intervals
 -- the ends of a range, each in its one pattern
@@ -81,7 +81,7 @@ patterns width R = two_ends (interval_of (format_of width) R)
 
 -- canonical form and mirror: 1; 2 for low, high; 3
 abbrev pub own_tests : ℕ → Interval → List Test
-own_tests width I = known width ∷ both_numbers width I ∷ ordered width I ∷ []
+own_tests width I = known width ∷ both_finite width I ∷ ordered width I ∷ []
 
 -- the same ends
 abbrev pub canonical_values : ℕ → Interval → List ℕ
@@ -93,7 +93,7 @@ mirror_values width I = patterns width (reflected (format_of width) (ordinals wi
 
 -- cut: 1; 2 for the own low, high, then the second interval's; 3 for the own, then the second
 abbrev pub cut_tests : ℕ → Interval → Interval → List Test
-cut_tests width I J = known width ∷ both_numbers width I ∷ both_numbers width J ∷ ordered width I ∷ ordered width J ∷ []
+cut_tests width I J = known width ∷ both_finite width I ∷ both_finite width J ∷ ordered width I ∷ ordered width J ∷ []
 
 -- the ends of what is shared; none where nothing is
 abbrev pub cut_values : ℕ → Interval → Interval → List ℕ
@@ -103,12 +103,11 @@ cut_values width I J = let R = common (ordinals width I) (ordinals width J) in c
 abbrev pub shifted : ℕ → Interval → ℕ → Range
 shifted width I c = let F = format_of width in translated F (ordinals width I) (ordinal F c)
 
--- shift: 1; 2 for the own low, high, then c; 3; 14 for low ⊕ c, then high ⊕ c
+-- shift: 1; 2 for the own low, high, then c; 3; 9 for low ⊕ c, then high ⊕ c
 abbrev pub shift_tests : ℕ → Interval → ℕ → List Test
 shift_tests width I c =
-    let R = ordinals width I in
-    let d = ordinal (format_of width) c in
-    known width ∷ both_numbers width I ∷ number width c ∷ ordered width I ∷ summable width R.low d ∷ summable width R.high d ∷ []
+    let R = shifted width I c in
+    known width ∷ both_finite width I ∷ finite width c ∷ ordered width I ∷ finite_sum width R.low ∷ finite_sum width R.high ∷ []
 
 -- low ⊕ c and high ⊕ c
 abbrev pub shift_values : ℕ → Interval → ℕ → List ℕ
@@ -118,7 +117,7 @@ shift_values width I c = patterns width (shifted width I c)
 -- 1; 2 for x low, x high, a low, a high, b low, b high; 3 for x, a, b
 abbrev pub given_tests : ℕ → Interval → Interval → Interval → List Test
 given_tests width x a b =
-    known width ∷ both_numbers width x ∷ both_numbers width a ∷ both_numbers width b ∷ ordered width x ∷ ordered width a ∷ ordered width b ∷ []
+    known width ∷ both_finite width x ∷ both_finite width a ∷ both_finite width b ∷ ordered width x ∷ ordered width a ∷ ordered width b ∷ []
 
 -- the least and greatest values standing in a triple, by their ordinals
 abbrev pub in_triples : ℕ → Interval → Interval → Interval → Narrowing
@@ -144,7 +143,7 @@ in_pairs by width i j = by (format_of width) (ordinals width i) (ordinals width 
 
 -- 1; 2 for the first, low then high, and the second; 3 for the first, the second
 abbrev pub given_pair : ℕ → Interval → Interval → List Test
-given_pair width i j = known width ∷ both_numbers width i ∷ both_numbers width j ∷ ordered width i ∷ ordered width j ∷ []
+given_pair width i j = known width ∷ both_finite width i ∷ both_finite width j ∷ ordered width i ∷ ordered width j ∷ []
 
 -- the same; 11
 abbrev pub pair_tests : Relation → ℕ → Interval → Interval → List Test
@@ -162,26 +161,3 @@ pair_values by width i j = four_patterns width (in_pairs by width i j)
 -- the reply due
 abbrev pub pair_reply : Relation → ℕ → Interval → Interval → Reply ℕ
 pair_reply by width i j = reply_after (pair_tests by width i j) (pair_values by width i j)
-
--- ---- x ⊕ x = x
--- 11: one that is its own double
-abbrev pub standing : Extent → Test
-standing empty = (false, refusal 11)
-standing (over I) = (true, refusal 11)
-
--- those of an interval, by their ordinals
-abbrev pub in_still : ℕ → Interval → Extent
-in_still width I = still (format_of width) (ordinals width I)
-
--- 1; 2 for low, high; 3; 11
-abbrev pub still_tests : ℕ → Interval → List Test
-still_tests width I = own_tests width I ++ standing (in_still width I) ∷ []
-
--- both ends, each in its one pattern
-abbrev pub two_patterns : ℕ → Extent → List ℕ
-two_patterns width empty = []
-two_patterns width (over I) = two_ends (written (format_of width) I)
-
--- the least and the greatest
-abbrev pub still_values : ℕ → Interval → List ℕ
-still_values width I = two_patterns width (in_still width I)

@@ -1,11 +1,9 @@
 -- What the functions that the narrowing calls answer: each case of an answer, by `ladder`'s definitions. For contracts inside the crate; no public one cites it. Assumes nothing.
-use Rattle.std.specs.Prelude.{ℕ, ◌+◌, ◌-◌, ◌<◌, ◌≤◌, min, max}
+use Rattle.std.specs.Prelude.{ℕ, ◌-◌, ◌<◌}
 use Rattle.ladder.specs.Solution.{Solution}
 use Rattle.ladder.specs.Narrowing as N
 use Rattle.ladder.specs.Narrowing.{Narrowing, none, ends}
 use Rattle.ladder.specs.Search as S
-use Rattle.ladder.specs.Extended as E
-use Rattle.ladder.specs.Parts as P
 use Rattle.arith.specs.declared.format.Format.{Format}
 use Rattle.arith.specs.declared.range.Range.{Range}
 use Rattle.arith.specs.declared.operand.Found.{Found}
@@ -15,8 +13,7 @@ use Rattle.arith.specs.declared.corner.Corner.{Corner}
 use Rattle.arith.specs.declared.corner.Corner.TheVariants as Corner
 use Rattle.arith.specs.declared.narrow.Ranges.{Ranges}
 use Rattle.arith.specs.declared.narrow.Ranges.TheVariants as Ranges
-use Rattle.arith.specs.Formats.{Sound, Finite, Number}
-use Rattle.arith.specs.Intervals.{span, Bounded, Numbers}
+use Rattle.arith.specs.Intervals.{span, Bounded}
 
 -- ---- the ends of what has a property
 -- the answer is the least, or that there is none
@@ -82,64 +79,7 @@ pub record SameTriples (F : Format) (X A B : Range) (O : Operands) : Type 0 wher
   pub given : (x a b : ℕ) → Triple F O.x O.a B x a b → Triple F X A B x a b
   pub fine : Fine F O.x O.a B
 
--- ---- the narrowing of ranges
--- by sums of finite floats alone
-abbrev pub finite_narrowing : Format → Range → Range → Range → Narrowing
-finite_narrowing F X A B = N.narrowing F.fraction F.exponent (span X) (span A) (span B)
-
--- an answer as ladder's
+-- ---- the narrowing of ranges, as ladder's
 abbrev pub narrowing_in : Ranges → Narrowing
 narrowing_in Ranges.None = none
 narrowing_in (Ranges.Ends X A B) = ends (span X) (span A) (span B)
-
--- ---- numbers
--- the upper infinity's ordinal
-abbrev pub top : Format → ℕ
-top F = E.top F.fraction F.exponent
-
--- the finite floats of a range
-abbrev pub finite_part : Format → Range → Range
-finite_part F R = record { low = max R.low (F.sign - F.infinity + 1); high = min R.high (F.sign + F.infinity - 1) }
-
--- bounded unless it holds nothing
-abbrev pub BoundedPart : Format → Range → Type 0
-BoundedPart F R = R.low ≤ R.high → Bounded F R
-
--- y inside R is not the lower infinity and has a sum with a of at least b
-abbrev pub Reaching : Format → ℕ → ℕ → Range → ℕ → Type 0
-Reaching F a b R = P.Reaching F.fraction F.exponent a b (span R)
-
--- a range of numbers of a sound format, with something inside
-pub record Held (F : Format) (R : Range) : Type 0 where
-  pub sound : Sound F
-  pub ends : Numbers F R
-  pub order : R.low ≤ R.high
-
--- a finite a, a b above the lower infinity, and a range of finite floats, or none, in which what reaches b with a is sought
-pub record Beside (F : Format) (a b : ℕ) (R : Range) : Type 0 where
-  pub sound : Sound F
-  pub finite : Finite F a
-  pub over : F.sign < b + F.infinity
-  pub most : b ≤ F.sign + F.infinity
-  pub part : BoundedPart F R
-
--- any number a, such a b, and a range of numbers
-pub record Reach (F : Format) (a b : ℕ) (R : Range) : Type 0 where
-  pub range : Held F R
-  pub number : Number F a
-  pub over : F.sign < b + F.infinity
-  pub most : b ≤ F.sign + F.infinity
-
--- three such ranges
-pub record HeldThree (F : Format) (X A B : Range) : Type 0 where
-  pub x : Held F X
-  pub a : Held F A
-  pub b : Held F B
-
--- the narrowing of the triples with the upper infinity for their sum
-abbrev pub IsUpper : Format → Range → Range → Range → Narrowing → Type 0
-IsUpper F X A B n = N.IsNarrowingBy (P.MakesTop F.fraction F.exponent) (span X) (span A) (span B) n
-
--- of those with the lower one
-abbrev pub IsLower : Format → Range → Range → Range → Narrowing → Type 0
-IsLower F X A B n = N.IsNarrowingBy (P.MakesBottom F.fraction F.exponent) (span X) (span A) (span B) n

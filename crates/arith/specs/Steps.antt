@@ -1,7 +1,7 @@
 -- What each step of the forward sum promises, in the order of IEEE 754-2008: the exact sum (5.1); that sum rounded to nearest, ties to even, as if no exponent were too large (4.3.1);
 -- the range test (7.4). `LeftOver` is 02's remainder, from the first two; `IsSum` says that the three together, with it, make 01's sum; `between_sums` is the shift by two sums.
 -- For contracts inside the crate; the public ones cite `GivesSum` (Additions) and `shift_of` (Intervals). Assumes nothing.
-use Rattle.std.specs.Prelude.{◌≡◌, ℕ, ◌+◌, ◌-◌, ◌*◌, ◌^◌, ◌<◌, ◌≤◌, Bool, true, false, cond, ◌&&◌, ◌↔◌, nat_le, nat_lt}
+use Rattle.std.specs.Prelude.{◌≡◌, ℕ, ◌+◌, ◌-◌, ◌*◌, ◌^◌, ◌<◌, ◌≤◌, Bool, true, false, cond, ◌↔◌, nat_le, nat_lt}
 use Rattle.ladder.specs.Magnitude.{magnitude}
 use Rattle.ladder.specs.Sum.{gains, losses}
 use Rattle.ladder.specs.Nearest.{NearestSize}
@@ -18,7 +18,8 @@ use Rattle.arith.specs.declared.sum.Sum.{Sum}
 use Rattle.arith.specs.declared.sum.Sum.TheVariants as Sum
 use Rattle.arith.specs.declared.interval.Image.{Image}
 use Rattle.arith.specs.declared.interval.Image.TheVariants as Image
-use Rattle.arith.specs.Formats.{Sound, is_finite, is_number, pattern, sum}
+use Rattle.arith.specs.Refusals.{refusal}
+use Rattle.arith.specs.Formats.{Sound, is_finite, pattern, sum}
 use Rattle.arith.specs.Exacts.{Amounts, Roundable, size_of, rounding_of}
 use Rattle.arith.specs.Sums.{mark_for, sum_answer}
 
@@ -36,11 +37,6 @@ pub data IsSign (F : Format) (sign : ℕ) : Type 0 where
 abbrev pub is_set : ℕ → Bool
 is_set sign = nat_lt 0 sign
 
--- a number by its sign and m: finite, or infinity's m
-pub record SignedNumber (F : Format) (z : Signed) : Type 0 where
-  pub sign : IsSign F z.sign
-  pub m : z.m ≤ F.infinity
-
 -- a float by its sign and m is finite
 pub record FiniteSigned (F : Format) (z : Signed) : Type 0 where
   pub sign : IsSign F z.sign
@@ -51,17 +47,6 @@ pub record Summands {A : Type 0} (IsFinite : Format → A → Type 0) (F : Forma
   pub sound : Sound F
   pub x_finite : IsFinite F x
   pub a_finite : IsFinite F a
-
--- both are numbers, by their patterns
-pub record NumberSummands (F : Format) (x a : ℕ) : Type 0 where
-  pub sound : Sound F
-  pub x_number : is_number F x ≡ true
-  pub a_number : is_number F a ≡ true
-
--- and not both are finite
-pub record InfiniteSummands (F : Format) (x a : ℕ) : Type 0 where
-  pub numbers : NumberSummands F x a
-  pub infinite : (is_finite F x && is_finite F a) ≡ false
 
 -- the ordinal of a float by its sign and m
 abbrev pub ordinal_at : Format → Signed → ℕ
@@ -116,21 +101,16 @@ tested_of F sign r =
     (Tested.Overflow (record { sign = sign; m = F.infinity }))
     (Tested.Finite (record { sign = sign; m = r.m }) (mark_for F.fraction r.m r.exact))
 
--- whether the test found an overflow
-abbrev pub is_overflow : Tested → Bool
-is_overflow (Tested.Finite s mark) = false
-is_overflow (Tested.Overflow s) = true
+-- 01's answer, with the remainder z where there is one: refusal 9 for an overflow, else pattern, mark and remainder
+abbrev pub answer_of : Format → Tested → Signed → Sum
+answer_of F (Tested.Finite s mark) z = Sum.Is (pattern F (ordinal_at F s)) mark (pattern F (ordinal_at F z))
+answer_of F (Tested.Overflow s) z = Sum.Refused (refusal 9)
 
 -- s is r with a sign after the range test
 pub record RangeTested (F : Format) (sign : ℕ) (r : Rounded) (s : Tested) : Type 0 where
   pub is : s ≡ tested_of F sign r
-  -- an overflow, to the infinity of its sign, exactly where the rounded size passes the largest finite float
-  pub infinite : (is_overflow s ≡ true) ↔ Passes F r.m
-
--- the answer for two finite floats, with the remainder z where the sum is finite: pattern, mark and remainder; an infinity has mark 1 and the remainder zero
-abbrev pub answer_of : Format → Tested → Signed → Sum
-answer_of F (Tested.Finite s mark) z = Sum.Is (pattern F (ordinal_at F s)) mark (pattern F (ordinal_at F z))
-answer_of F (Tested.Overflow s) z = Sum.Is (pattern F (ordinal_at F s)) 1 0
+  -- refusal 9 exactly where the rounded size passes the largest finite float, whatever is left over
+  pub refused : (z : Signed) → (answer_of F s z ≡ Sum.Refused (refusal 9)) ↔ Passes F r.m
 
 -- ---- what rounding left over
 -- r is the exact sum t, rounded
@@ -151,20 +131,20 @@ abbrev pub ordinal_of : Format → Tested → ℕ
 ordinal_of F (Tested.Finite z mark) = ordinal_at F z
 ordinal_of F (Tested.Overflow z) = ordinal_at F z
 
--- a finite float, or an infinity for an overflow
+-- m is a finite float's, or infinity's for an overflow
 abbrev pub InFormat : Format → Tested → Type 0
 InFormat F (Tested.Finite z mark) = FiniteSigned F z
-InFormat F (Tested.Overflow z) = SignedNumber F z
+InFormat F (Tested.Overflow z) = z.m ≡ F.infinity
 
--- v with z as what is left over is the answer, and z is finite
+-- v with z as what is left over is 01's answer, and z is finite
 pub record AnswersWith (F : Format) (x a : ℕ) (v : Tested) (z : Signed) : Type 0 where
   pub finite : FiniteSigned F z
   pub is : answer_of F v z ≡ sum_answer F x a
 
--- a finite sum with what rounding left over, or an infinity, is 01's answer
+-- a finite sum with what rounding left over, or the refusal, is 01's answer
 abbrev pub IsAnswer : Format → ℕ → ℕ → Addition → Tested → Type 0
 IsAnswer F x a s (Tested.Finite y mark) = (z : Signed) → LeftOver F s.exact s.rounding.result.m z → AnswersWith F x a (Tested.Finite y mark) z
-IsAnswer F x a s (Tested.Overflow y) = Sum.Is (pattern F (ordinal_at F y)) 1 0 ≡ sum_answer F x a
+IsAnswer F x a s (Tested.Overflow y) = Sum.Refused (refusal 9) ≡ sum_answer F x a
 
 -- s is the sum of the ordinals x and a, and v what its range test leaves
 pub record IsSum (F : Format) (x a : ℕ) (s : Addition) (v : Tested) : Type 0 where

@@ -1,11 +1,11 @@
-// Half a number and twice one: the least whose double is at least b, the greatest whose double is at most b, and the double. An infinity is its own double.
+// Half a float and twice one: the least float whose double is at least b, the greatest whose double is at most b, and the double.
 ghost use Rattle.std.specs.Prelude.{◌≡◌, ◌^◌, ◌≤◌};
 ghost use Rattle.ladder.specs.Halves.{doubled, halved};
 ghost use Rattle.arith.specs.Formats.{sum};
-ghost use Rattle.arith.specs.PairSearches.{NumberAt, LeastHalf, GreatestHalf};
+ghost use Rattle.arith.specs.PairSearches.{FiniteAt, LeastHalf, GreatestHalf, Doublable};
 
 use crate::format::Format;
-use crate::range::{min, mirror_of};
+use crate::range::mirror_of;
 use crate::words::shift_left;
 
 // Half of a pattern without its sign; of an odd one that is no double rounded down, and up for up = 1.
@@ -22,13 +22,10 @@ fn half_of(fraction: u64, up: u64, n: u64) -> u64
 
 // The least ordinal whose double is at least b.
 pub(crate) fn half_up(format: Format, b: u64) -> u64
-    requires { NumberAt format b }
+    requires { FiniteAt format b }
     ensures { LeastHalf format b result }
 {
     let fraction = format.fraction;
-    if b == format.sign - format.infinity {
-        return b;
-    }
     if b <= format.sign {
         return format.sign - half_of(fraction, 0, format.sign - b);
     }
@@ -37,7 +34,7 @@ pub(crate) fn half_up(format: Format, b: u64) -> u64
 
 // The greatest ordinal whose double is at most b.
 pub(crate) fn half_down(format: Format, b: u64) -> u64
-    requires { NumberAt format b }
+    requires { FiniteAt format b }
     ensures { GreatestHalf format b result }
 {
     let m = half_up(format, mirror_of(format, b));
@@ -56,14 +53,14 @@ fn double_of(fraction: u64, m: u64) -> u64
     m + h
 }
 
-// x (+) x.
+// x (+) x, where that is finite.
 pub(crate) fn double(format: Format, x: u64) -> u64
-    requires { NumberAt format x }
+    requires { Doublable format x }
     ensures { result ≡ sum format x x }
 {
     let fraction = format.fraction;
     if x < format.sign {
-        return format.sign - min(double_of(fraction, format.sign - x), format.infinity);
+        return format.sign - double_of(fraction, format.sign - x);
     }
-    format.sign + min(double_of(fraction, x - format.sign), format.infinity)
+    format.sign + double_of(fraction, x - format.sign)
 }

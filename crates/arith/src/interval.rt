@@ -1,17 +1,17 @@
 // Intervals of patterns, with their cut, shift and mirror. Results are written in canonical patterns.
 ghost use Rattle.std.specs.Prelude.{◌≡◌, true};
 ghost use Rattle.arith.specs.Formats.{Sound, format_of};
-ghost use Rattle.arith.specs.Intervals.{Numbers, mirrored_ends, ends_number, range_of, interval_of, shared_in, canonical_in, cut_in, shift_in, mirror_in};
+ghost use Rattle.arith.specs.Intervals.{Bounded, mirrored_ends, ends_finite, range_of, interval_of, shared_in, canonical_in, cut_in, shift_in, mirror_in};
 ghost use Rattle.arith.specs.Intervals.{canonical_of, cut_of, shift_of, mirror_of};
 ghost use Rattle.arith.specs.Steps.{between_sums};
 ghost use Rattle.arith.specs.Answers.{cut_told, image_told};
 ghost use Rattle.arith.specs.Replies.{reply_after, own_tests, cut_tests, shift_tests, canonical_values, cut_values, shift_values, mirror_values};
 
 use crate::format::{Format, format_of, known};
-use crate::pattern::{negate, number, ordinal_of, pattern_of};
+use crate::pattern::{finite, negate, ordinal_of, pattern_of};
 use crate::range::{Range, ordered, shared};
 use crate::refusal::{Refusal, refuse};
-use crate::sum::{Sum, add_numbers};
+use crate::sum::{Sum, add_finite};
 
 // The floats from low to high, by their patterns.
 #[derive(Drop)]
@@ -35,20 +35,20 @@ pub enum Image {
     Refused(Refusal),
 }
 
-// Whether both ends are numbers.
-pub(crate) fn ends_number(format: Format, i: Interval) -> bool
+// Whether both ends are finite.
+pub(crate) fn ends_finite(format: Format, i: Interval) -> bool
     requires { Sound format }
-    ensures { result ≡ ends_number format i }
+    ensures { result ≡ ends_finite format i }
 {
-    if !number(format, i.low) {
+    if !finite(format, i.low) {
         return false;
     }
-    number(format, i.high)
+    finite(format, i.high)
 }
 
 // The ordinals of the ends.
 pub(crate) fn range_of(format: Format, i: Interval) -> Range
-    requires { (Sound format) × (ends_number format i ≡ true) }
+    requires { (Sound format) × (ends_finite format i ≡ true) }
     ensures { result ≡ range_of format i }
 {
     Range {
@@ -59,7 +59,7 @@ pub(crate) fn range_of(format: Format, i: Interval) -> Range
 
 // The patterns of the ends.
 pub(crate) fn interval_of(format: Format, r: Range) -> Interval
-    requires { (Sound format) × (Numbers format r) }
+    requires { (Sound format) × (Bounded format r) }
     ensures { result ≡ interval_of format r }
 {
     Interval {
@@ -73,7 +73,7 @@ fn canonical_in(format: Format, i: Interval) -> Image
     requires { Sound format }
     ensures { result ≡ canonical_in format i }
 {
-    if !ends_number(format, i) {
+    if !ends_finite(format, i) {
         return Image::Refused(refuse(2));
     }
     let own = range_of(format, i);
@@ -85,7 +85,7 @@ fn canonical_in(format: Format, i: Interval) -> Image
 
 // The interval of a shared range, or that nothing is shared.
 fn shared_in(format: Format, r: Range) -> Cut
-    requires { (Sound format) × (Numbers format r) }
+    requires { (Sound format) × (Bounded format r) }
     ensures { result ≡ shared_in format r }
 {
     if !ordered(r) {
@@ -99,10 +99,10 @@ fn cut_in(format: Format, i: Interval, j: Interval) -> Cut
     requires { Sound format }
     ensures { result ≡ cut_in format i j }
 {
-    if !ends_number(format, i) {
+    if !ends_finite(format, i) {
         return Cut::Refused(refuse(2));
     }
-    if !ends_number(format, j) {
+    if !ends_finite(format, j) {
         return Cut::Refused(refuse(2));
     }
     let own = range_of(format, i);
@@ -142,17 +142,17 @@ fn shift_in(format: Format, i: Interval, c: u64) -> Image
     requires { Sound format }
     ensures { result ≡ shift_in format i c }
 {
-    if !ends_number(format, i) {
+    if !ends_finite(format, i) {
         return Image::Refused(refuse(2));
     }
-    if !number(format, c) {
+    if !finite(format, c) {
         return Image::Refused(refuse(2));
     }
     if !ordered(range_of(format, i)) {
         return Image::Refused(refuse(3));
     }
-    let low = add_numbers(format, i.low, c);
-    let high = add_numbers(format, i.high, c);
+    let low = add_finite(format, i.low, c);
+    let high = add_finite(format, i.high, c);
     between_sums(low, high)
 }
 
@@ -172,7 +172,7 @@ fn mirror_in(format: Format, i: Interval) -> Image
     requires { Sound format }
     ensures { result ≡ mirror_in format i }
 {
-    if !ends_number(format, i) {
+    if !ends_finite(format, i) {
         return Image::Refused(refuse(2));
     }
     let own = range_of(format, i);
@@ -212,7 +212,7 @@ impl Interval {
         cut_in(format_of(width), self, other)
     }
 
-    // From low + c to high + c, each sum rounded; refusals 1, 2 for the ends then c, 3, 14 for low then high.
+    // From low + c to high + c, each sum rounded; refusals 1, 2 for the ends then c, 3, 9.
     pub fn shift(self, width: u64, c: u64) -> Image
         ensures value { result ≡ shift_of width self c }
         ensures result_value { image_told result ≡ reply_after (shift_tests width self c) (shift_values width self c) }

@@ -1,22 +1,18 @@
-// Arithmetic on binary floating-point patterns at both widths: the forward sum, intervals and the narrowing of one sum, also with one number in two places or in all three; infinities are numbers. All in integers, so that no answer depends on a floating-point environment. Rests on the crate `ladder`.
+// Arithmetic on binary floating-point patterns at both widths: the forward sum, intervals and the narrowing of one sum, also with one float in two places. All in integers, so that no answer depends on a floating-point environment. Rests on the crate `ladder`.
 mod absorb;
 mod clamp;
 mod corner;
-mod extended;
 mod extent;
 pub mod format;
 mod half;
 pub mod interval;
 pub mod narrow;
 mod operand;
-mod pairs;
 mod pattern;
 mod range;
-mod reach;
 pub mod refusal;
 mod remainder;
 pub mod repeated;
-mod still;
 pub mod sum;
 mod threshold;
 mod words;

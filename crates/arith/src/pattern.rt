@@ -1,6 +1,6 @@
-// Patterns and ordinals: which patterns are finite and which are numbers', the one with the other sign, the ordinal of a pattern of the width, and the one pattern that is written for a number's ordinal.
+// Patterns and ordinals: which patterns are finite, the one with the other sign, the ordinal of a pattern of the width, and the one pattern that is written for a finite ordinal.
 ghost use Rattle.std.specs.Prelude.{◌≡◌, ◌+◌, ◌-◌, ◌*◌, ◌<◌};
-ghost use Rattle.arith.specs.Formats.{Sound, Number, is_finite, is_number, negated, ordinal, pattern};
+ghost use Rattle.arith.specs.Formats.{Sound, Finite, is_finite, negated, ordinal, pattern};
 
 use crate::format::Format;
 
@@ -13,17 +13,6 @@ pub(crate) fn finite(format: Format, p: u64) -> bool
         return p < format.infinity;
     }
     p - format.sign < format.infinity
-}
-
-// Whether a pattern is a number's: finite or an infinity's. A NaN's is not, nor one with bits beyond the width.
-pub(crate) fn number(format: Format, p: u64) -> bool
-    requires { Sound format }
-    ensures { result ≡ is_number format p }
-{
-    if p < format.sign {
-        return p <= format.infinity;
-    }
-    p - format.sign <= format.infinity
 }
 
 // The pattern with the other sign; both zeros have one.
@@ -61,9 +50,9 @@ pub(crate) fn distance_from_zero(format: Format, r: u64) -> u64
     r - format.sign
 }
 
-// The pattern of a number's ordinal, zero with its sign clear.
+// The pattern of a finite ordinal, zero with its sign clear.
 pub(crate) fn pattern_of(format: Format, r: u64) -> u64
-    requires { (Sound format) × (Number format r) }
+    requires { (Sound format) × (Finite format r) }
     ensures { result ≡ pattern format r }
 {
     if r < format.sign {

@@ -1,7 +1,7 @@
 // Ranges of ordinals: the ends of an interval as the arithmetic works on them. A range whose low is above its high holds nothing.
 ghost use Rattle.std.specs.Prelude.{◌≡◌, min, max};
-ghost use Rattle.arith.specs.Formats.{Sound, Number, mirrored};
-ghost use Rattle.arith.specs.Intervals.{Numbers, is_ordered, common, reflected};
+ghost use Rattle.arith.specs.Formats.{Sound, Finite, mirrored};
+ghost use Rattle.arith.specs.Intervals.{Bounded, is_ordered, common, reflected};
 
 use crate::format::Format;
 
@@ -44,7 +44,7 @@ pub(crate) fn shared(r: Range, s: Range) -> Range
 
 // The ordinal of the value with the other sign.
 pub(crate) fn mirror_of(format: Format, r: u64) -> u64
-    requires { (Sound format) × (Number format r) }
+    requires { (Sound format) × (Finite format r) }
     ensures { result ≡ mirrored format r }
 {
     if r < format.sign {
@@ -55,7 +55,7 @@ pub(crate) fn mirror_of(format: Format, r: u64) -> u64
 
 // From the mirrored high end to the mirrored low end.
 pub(crate) fn reflect(format: Format, r: Range) -> Range
-    requires { (Sound format) × (Numbers format r) }
+    requires { (Sound format) × (Bounded format r) }
     ensures { result ≡ reflected format r }
 {
     Range {

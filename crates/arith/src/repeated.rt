@@ -1,18 +1,18 @@
-// The narrowing of a sum or difference with one number in two places, x (+) x = b, x (+) a = x, x (-) x = b and x (-) a = a, and of x (+) x = x, with it in all three: for each number the least and greatest value that makes such a sum.
+// The narrowing of a sum with one float in two places: x (+) x = b, and x (+) a = x. For each of the two floats the least and greatest value that makes such a sum.
 ghost use Rattle.std.specs.Prelude.{◌≡◌};
 ghost use Rattle.arith.specs.Formats.{Sound};
-ghost use Rattle.arith.specs.Repeats.{doubling, absorbing, cancelling, halving, pair_answer, pair_in, pair_of, still_in, still_of};
-ghost use Rattle.arith.specs.PairSearches.{relation_of, coupled, NumberEnds};
-ghost use Rattle.arith.specs.Answers.{image_told, paired_told};
-ghost use Rattle.arith.specs.Replies.{reply_after, pair_reply, still_tests, still_values};
+ghost use Rattle.arith.specs.Repeats.{doubling, absorbing, pair_answer, pair_in, pair_of};
+ghost use Rattle.arith.specs.PairSearches.{relation_of, BothFilled, coupled, FiniteEnds, Around, Above, Below};
+ghost use Rattle.arith.specs.Answers.{paired_told};
+ghost use Rattle.arith.specs.Replies.{pair_reply};
 
+use crate::absorb::{absorbed_to, greatest_absorber, least_absorber};
 use crate::format::{Format, format_of, known};
-use crate::interval::{Image, Interval, ends_number, interval_of, range_of};
+use crate::half::{double, half_down, half_up};
+use crate::interval::{Interval, ends_finite, interval_of, range_of};
 use crate::operand::Found;
-use crate::pairs::{Couple, Repeat, narrow_both};
-use crate::range::{Range, ordered};
+use crate::range::{Range, min, mirror_of, ordered, reflect, shared};
 use crate::refusal::{Refusal, refuse};
-use crate::still::{greatest_still, least_still};
 
 // The two intervals narrowed, or the refusal.
 #[derive(Drop)]
@@ -21,9 +21,125 @@ pub enum Paired {
     Refused(Refusal),
 }
 
+// The two ranges narrowed, or that no two values are left.
+#[derive(Drop)]
+pub(crate) enum Couple {
+    None,
+    Ends { p: Range, q: Range },
+}
+
+// Which two places hold one float: x (+) x = b, or x (+) a = x.
+#[derive(Drop)]
+pub(crate) enum Repeat {
+    Doubles,
+    Absorbs,
+}
+
+// The narrowing of ranges by x (+) x = b: doubling keeps the order, so x is cut to the halves of b, and the ends of b are the doubles of the ends of x.
+fn double_ranges(format: Format, x: Range, b: Range) -> Couple
+    requires { BothFilled format x b }
+    ensures { coupled result ≡ doubling format x b }
+{
+    let half = Range {
+        low: half_up(format, b.low),
+        high: half_down(format, b.high),
+    };
+    let cut = shared(x, half);
+    if !ordered(cut) {
+        return Couple::None;
+    }
+    Couple::Ends {
+        p: cut,
+        q: Range {
+            low: double(format, cut.low),
+            high: double(format, cut.high),
+        },
+    }
+}
+
+// The narrowing of ranges by x (+) a = x, for zero inside a: every x stays. The least a is the mirror image of the greatest of the mirrored ranges.
+fn absorb_around(format: Format, x: Range, a: Range) -> Couple
+    requires { Around format x a }
+    ensures { coupled result ≡ absorbing format x a }
+{
+    let high = min(a.high, absorbed_to(format, x));
+    let mirror = reflect(format, a);
+    let low = min(mirror.high, absorbed_to(format, reflect(format, x)));
+    Couple::Ends {
+        p: x,
+        q: Range {
+            low: mirror_of(format, low),
+            high,
+        },
+    }
+}
+
+// The same for a above zero: the x that absorb the least a.
+fn absorb_above(format: Format, x: Range, a: Range) -> Couple
+    requires { Above format x a }
+    ensures { coupled result ≡ absorbing format x a }
+{
+    let most = absorbed_to(format, x);
+    if most < a.low {
+        return Couple::None;
+    }
+    let Found::At(low) = least_absorber(format, a.low, x) else {
+        return Couple::None;
+    };
+    let Found::At(high) = greatest_absorber(format, a.low, x) else {
+        return Couple::None;
+    };
+    Couple::Ends {
+        p: Range { low, high },
+        q: Range {
+            low: a.low,
+            high: min(a.high, most),
+        },
+    }
+}
+
+// The same for a below zero, in the mirror.
+fn absorb_below(format: Format, x: Range, a: Range) -> Couple
+    requires { Below format x a }
+    ensures { coupled result ≡ absorbing format x a }
+{
+    match absorb_above(format, reflect(format, x), reflect(format, a)) {
+        Couple::None => Couple::None,
+        Couple::Ends { p, q } => Couple::Ends {
+            p: reflect(format, p),
+            q: reflect(format, q),
+        },
+    }
+}
+
+// The narrowing of ranges by x (+) a = x.
+fn absorb_ranges(format: Format, x: Range, a: Range) -> Couple
+    requires { BothFilled format x a }
+    ensures { coupled result ≡ absorbing format x a }
+{
+    if a.high < format.sign {
+        return absorb_below(format, x, a);
+    }
+    if format.sign < a.low {
+        return absorb_above(format, x, a);
+    }
+    absorb_around(format, x, a)
+}
+
+// The narrowing of ranges by either sum.
+fn narrow_both(format: Format, by: Repeat, p: Range, q: Range) -> Couple
+    requires { BothFilled format p q }
+    ensures { coupled result ≡ relation_of by format p q }
+{
+    match by {
+        Repeat::Doubles => double_ranges(format, p, q),
+        Repeat::Absorbs => absorb_ranges(format, p, q),
+    }
+}
+
 // The answer for two ranges narrowed; refusal 11.
 fn pair_answer(format: Format, c: Couple) -> Paired
-    requires { (Sound format) × (NumberEnds format c) }
+    requires { (Sound format) × (FiniteEnds format c) }
     ensures { result ≡ pair_answer format (coupled c) }
 {
     match c {
@@ -40,10 +156,10 @@ fn pair_in(format: Format, by: Repeat, i: Interval, j: Interval) -> Paired
     requires { Sound format }
     ensures { result ≡ pair_in (relation_of by) format i j }
 {
-    if !ends_number(format, i) {
+    if !ends_finite(format, i) {
         return Paired::Refused(refuse(2));
     }
-    if !ends_number(format, j) {
+    if !ends_finite(format, j) {
         return Paired::Refused(refuse(2));
     }
     let p = range_of(format, i);
@@ -81,52 +197,4 @@ pub fn narrow_absorb(width: u64, x: Interval, a: Interval) -> Paired
     ensures result_value { paired_told result ≡ pair_reply absorbing width x a }
 {
     narrow_pair(width, Repeat::Absorbs, x, a)
-}
-
-// The ends of x and b that stand in x (-) x = b; refusals 1, 2 for x, b, 3 for x, b, 11, in this order.
-pub fn narrow_cancel(width: u64, x: Interval, b: Interval) -> Paired
-    ensures value { result ≡ pair_of cancelling width x b }
-    ensures result_value { paired_told result ≡ pair_reply cancelling width x b }
-{
-    narrow_pair(width, Repeat::Cancels, x, b)
-}
-
-// The ends of a and x that stand in x (-) a = a; refusals 1, 2 for a, x, 3 for a, x, 11, in this order.
-pub fn narrow_halve(width: u64, a: Interval, x: Interval) -> Paired
-    ensures value { result ≡ pair_of halving width a x }
-    ensures result_value { paired_told result ≡ pair_reply halving width a x }
-{
-    narrow_pair(width, Repeat::Halves, a, x)
-}
-
-// The answer for x (+) x = x in a format; refusals 2 for low, high, 3, 11.
-fn still_in(format: Format, i: Interval) -> Image
-    requires { Sound format }
-    ensures { result ≡ still_in format i }
-{
-    if !ends_number(format, i) {
-        return Image::Refused(refuse(2));
-    }
-    let x = range_of(format, i);
-    if !ordered(x) {
-        return Image::Refused(refuse(3));
-    }
-    let Found::At(low) = least_still(format, x) else {
-        return Image::Refused(refuse(11));
-    };
-    let Found::At(high) = greatest_still(format, x) else {
-        return Image::Refused(refuse(11));
-    };
-    Image::Is(interval_of(format, Range { low, high }))
-}
-
-// The ends of x that stand in x (+) x = x; refusals 1, 2 for low, high, 3, 11, in this order.
-pub fn narrow_still(width: u64, x: Interval) -> Image
-    ensures value { result ≡ still_of width x }
-    ensures result_value { image_told result ≡ reply_after (still_tests width x) (still_values width x) }
-{
-    if !known(width) {
-        return Image::Refused(refuse(1));
-    }
-    still_in(format_of(width), x)
 }

@@ -2,15 +2,15 @@
 // `range_test` are the steps, each after the functions that it uses; `add_signed` is the three together, and shift and narrowing
 // add by it too; what rounding left over, `remainder` has from the first two. What each promises is said in specs/Steps. Rests on
 // `words`, `format`, `pattern`, `refusal` and `remainder`.
-ghost use Rattle.std.specs.Prelude.{◌≡◌, ◌+◌, ◌*◌, ◌^◌, ◌<◌, ◌≤◌, ◌&&◌};
-ghost use Rattle.arith.specs.Formats.{Sound, Finite, is_finite, ordinal, pattern, sum};
+ghost use Rattle.std.specs.Prelude.{◌≡◌, ◌+◌, ◌*◌, ◌^◌, ◌<◌, ◌≤◌};
+ghost use Rattle.arith.specs.Formats.{Sound, Finite, ordinal, pattern, sum};
 ghost use Rattle.arith.specs.Exacts.{parts_of, exact_of, Shaped, Roundable, joined_of, Scales, leading_of, kept_of, Fraction, Digits};
 ghost use Rattle.arith.specs.Sums.{mark_for, sum_answer, add_in};
-ghost use Rattle.arith.specs.Steps.{FinitePattern, FiniteSigned, SignedNumber, Summands, NumberSummands, InfiniteSummands, ordinal_at, Represents, Exactly, RoundsUnits, Rounds, RangeTested, IsSum};
+ghost use Rattle.arith.specs.Steps.{FinitePattern, FiniteSigned, Summands, ordinal_at, Represents, Exactly, RoundsUnits, Rounds, RangeTested, IsSum};
 ghost use Rattle.arith.specs.Additions.{GivesSum};
 
 use crate::format::{Format, format_of, known};
-use crate::pattern::{finite, number};
+use crate::pattern::finite;
 use crate::refusal::{Refusal, refuse};
 use crate::remainder::left_over;
 use crate::words::{digits, dropped, shift_left, shift_right, sticky};
@@ -252,8 +252,8 @@ fn mark(format: Format, r: Rounded) -> u64
     1
 }
 
-// Step 3 (IEEE 754-2008, 7.4): the range test. The sum overflows, to the infinity of its sign, exactly where the rounded size
-// passes the largest finite float, whose m is the one before infinity's; else sign and m make its pattern, and it has its mark.
+// Step 3 (IEEE 754-2008, 7.4): the range test. The sum overflows, which is refusal 9, exactly where the rounded size passes the
+// largest finite float, whose m is the one before infinity's; else sign and m make its pattern, and it has its mark.
 fn range_test(format: Format, sign: u64, r: Rounded) -> Tested
     requires { Sound format }
     ensures { RangeTested format sign r result }
@@ -336,9 +336,9 @@ impl Signed {
         format.sign - self.m
     }
 
-    // Its pattern, an infinity's too. Zero has its sign clear, whatever the signs of the operands, as 01 has it; 6.3 of the standard keeps that of -0 + -0.
+    // Its pattern. Zero has its sign clear, whatever the signs of the operands, as 01 has it; 6.3 of the standard keeps that of -0 + -0.
     fn pattern(self, format: Format) -> u64
-        requires { (Sound format) × (SignedNumber format self) }
+        requires { (Sound format) × (FiniteSigned format self) }
         ensures { result ≡ pattern format (ordinal_at format self) }
     {
         if self.m == 0 {
@@ -348,7 +348,7 @@ impl Signed {
     }
 }
 
-// The sum of two finite ordinals: an infinity's ordinal where it overflows.
+// The sum of two finite ordinals: an infinity's ordinal where no finite sum exists.
 pub(crate) fn sum_of(format: Format, x: u64, a: u64) -> u64
     requires { Summands Finite format x a }
     ensures { result ≡ sum format x a }
@@ -365,7 +365,7 @@ pub(crate) fn sum_of(format: Format, x: u64, a: u64) -> u64
     }
 }
 
-// The answer for two finite patterns: pattern, mark and remainder; mark 1 and the remainder zero for an overflow.
+// The answer for two finite patterns: refusal 9, or pattern, mark and remainder.
 pub(crate) fn add_finite(format: Format, x: u64, a: u64) -> Sum
     requires { Summands FinitePattern format x a }
     ensures { result ≡ sum_answer format (ordinal format x) (ordinal format a) }
@@ -385,78 +385,25 @@ pub(crate) fn add_finite(format: Format, x: u64, a: u64) -> Sum
                 remainder: left.pattern(format),
             }
         }
-        Tested::Overflow { infinity } => Sum::Is {
-            pattern: infinity.pattern(format),
-            mark: 1,
-            remainder: 0,
-        },
+        Tested::Overflow { infinity: _ } => Sum::Refused(refuse(9)),
     }
 }
 
-// The answer for two numbers of which one is infinite, in its pattern: refusal 14 for opposite infinities, else the infinite one, with mark 0 and the remainder zero.
-fn add_infinite(format: Format, x: u64, a: u64) -> Sum
-    requires { InfiniteSummands format x a }
-    ensures { result ≡ sum_answer format (ordinal format x) (ordinal format a) }
-{
-    if finite(format, x) {
-        return Sum::Is {
-            pattern: a,
-            mark: 0,
-            remainder: 0,
-        };
-    }
-    if !finite(format, a) {
-        if x != a {
-            return Sum::Refused(refuse(14));
-        }
-    }
-    Sum::Is {
-        pattern: x,
-        mark: 0,
-        remainder: 0,
-    }
-}
-
-// Whether two patterns are finite.
-fn both_finite(format: Format, x: u64, a: u64) -> bool
-    requires { Sound format }
-    ensures { result ≡ (is_finite format x && is_finite format a) }
-{
-    if !finite(format, x) {
-        return false;
-    }
-    finite(format, a)
-}
-
-// The answer for two numbers' patterns.
-pub(crate) fn add_numbers(format: Format, x: u64, a: u64) -> Sum
-    requires { NumberSummands format x a }
-    ensures { result ≡ sum_answer format (ordinal format x) (ordinal format a) }
-{
-    if both_finite(format, x, a) {
-        return add_finite(format, x, a);
-    }
-    add_infinite(format, x, a)
-}
-
-// The answer in a format. Finite operands are tried first, so that these make no other test.
+// The answer in a format.
 fn add_in(format: Format, x: u64, a: u64) -> Sum
     requires { Sound format }
     ensures { result ≡ add_in format x a }
 {
-    if both_finite(format, x, a) {
-        return add_finite(format, x, a);
-    }
-    if !number(format, x) {
+    if !finite(format, x) {
         return Sum::Refused(refuse(2));
     }
-    if !number(format, a) {
+    if !finite(format, a) {
         return Sum::Refused(refuse(2));
     }
-    add_infinite(format, x, a)
+    add_finite(format, x, a)
 }
 
-// The sum of two patterns with its mark and its remainder; refusals 1, 2 for x then a, 14, in this order.
+// The sum of two patterns with its mark and its remainder; refusals 1, 2 for x then a, 9, in this order.
 pub fn add(width: u64, x: u64, a: u64) -> Sum
     ensures { GivesSum width x a result }
 {

@@ -1,18 +1,13 @@
--- A narrowing shown by a few sums: a triple at each end, and one sum beyond each end of x that misses b. With finite ends it is the narrowing with infinities too. Assumes nothing.
-use mathlib.Core.Path.{◌≡◌, sym, subst, ◌∙◌}
+-- A narrowing shown by a few sums: a triple at each end, and one sum beyond each end of x that misses b. Assumes nothing.
+use mathlib.Core.Path.{◌≡◌, sym, subst}
 use mathlib.Core.Logic.{inl, inr}
-use Prim.Native.Nat.{ℕ, suc, ◌+◌, ◌^◌, ◌≤◌, ◌<◌}
+use Prim.Native.Nat.{ℕ, suc, ◌≤◌, ◌<◌}
 use native.Mathlib.Omega.{arith}
-use Rattle.ladder.specs.Ordinal.{sign, infinity}
 use Rattle.ladder.specs.Sum.{sum}
-use Rattle.ladder.specs.Solution.{Interval, In, Solution, Bounded}
-use Rattle.ladder.specs.Narrowing.{HasX, HasA, HasB, Hull, none, ends}
-use Rattle.ladder.specs.Extended.{extended_narrowing}
+use Rattle.ladder.specs.Solution.{Interval, In, Solution}
+use Rattle.ladder.specs.Narrowing.{HasX, HasA, HasB, Hull}
 use Rattle.ladder.proofs.Cases.{le_or_lt}
 use Rattle.ladder.proofs.Sum.{sum_mono}
-use Rattle.ladder.proofs.Narrowing.{adds_decides}
-use Rattle.ladder.proofs.Hull.{hull_narrowing, none_narrowing}
-use Rattle.ladder.proofs.Parts.{as_before}
 
 -- a triple: its six tests and its sum
 pub triple : (f e : ℕ) (X A B : Interval) (x a b : ℕ) → X.low ≤ x → x ≤ X.high → A.low ≤ a → a ≤ A.high → B.low ≤ b → b ≤ B.high → sum f e x a ≡ b → Solution f e X A B x a b
@@ -65,14 +60,3 @@ module _ (f e : ℕ) (some : 1 ≤ f) (X A B : Interval) where
         b_high = subst (HasB f e X A B) (sym hi) (record { x = l; a = A.high; solution = s });
         within = λ x a b r. (record { low = omega (arith, over m x a b u r); high = omega (arith, under n x a b v r) }, r.a_in, r.b_in);
       })
-
--- ---- finite ends
-pub bounded : (f e : ℕ) (I : Interval) → sign f e < I.low + infinity f e → I.low ≤ I.high → I.high < sign f e + infinity f e → Bounded f e I
-bounded f e I l m h = record { low = record { low = l; high = omega arith }; high = record { low = omega arith; high = h } }
-
-module _ (f e : ℕ) (some : 1 ≤ f) (wide : 2 ^ f ≤ infinity f e) (X A B : Interval) (x : Bounded f e X) (a : Bounded f e A) (b : Bounded f e B) where
-  pub by_hull : (X' A' B' : Interval) → Hull f e X A B X' A' B' → extended_narrowing f e X A B ≡ ends X' A' B'
-  by_hull X' A' B' h = as_before f e some wide X A B x a b ∙ hull_narrowing (adds_decides f e) X A B X' A' B' h
-
-  pub by_none : ((y c z : ℕ) → Solution f e X A B y c z → ⊥) → extended_narrowing f e X A B ≡ none
-  by_none n = as_before f e some wide X A B x a b ∙ none_narrowing (adds_decides f e) X A B n

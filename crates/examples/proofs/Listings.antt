@@ -5,7 +5,7 @@ use Prim.Native.Nat.{ℕ}
 use Prim.Native.String.{◌++◌}
 use Rattle.ladder.specs.Ordinal.{sign, infinity, ordinal, pattern}
 use Rattle.arith.specs.declared.interval.Interval.{Interval}
-use Rattle.arith.specs.Intervals.{ends_number, is_ordered, canonical_in, canonical_of}
+use Rattle.arith.specs.Intervals.{ends_finite, is_ordered, canonical_in, canonical_of}
 use Rattle.sheet.specs.declared.kept.Record.{Record}
 use Rattle.sheet.specs.declared.kept.Kept.{Kept}
 use Rattle.sheet.specs.declared.kept.Answer.TheVariants.{Done}
@@ -32,12 +32,12 @@ abbrev cells000 : List Interval
 cells000 = interval 0xC630000000000000 0xC330000000000000 ∷ interval 0x3FF0000000000000 0x4630000000000000 ∷ interval 0x3FE0000000000000 0x3FF8000000000000 ∷ []
 
 passing000 : test_of_lists 64 10 cells000 (over 0 1 2 ∷ []) ≡ Done
-unfolding test_lists first_fault head_fault cell_fault record_fault named_fault canonical_of canonical_in ends_number is_ordered ordinal sign infinity
+unfolding test_lists first_fault head_fault cell_fault record_fault named_fault canonical_of canonical_in ends_finite is_ordered ordinal sign infinity
 passing000 = refl
 
 -- ---- the two sums
 two_sums_passing : (test_of_lists 64 5 two_sums_cells (over 0 1 2 ∷ over 2 3 0 ∷ []) ≡ Done) × (test_of_lists 64 6 two_sums_cells (over 0 1 2 ∷ over 2 3 0 ∷ []) ≡ Done)
-unfolding test_lists first_fault head_fault cell_fault record_fault named_fault canonical_of canonical_in ends_number is_ordered ordinal sign infinity
+unfolding test_lists first_fault head_fault cell_fault record_fault named_fault canonical_of canonical_in ends_finite is_ordered ordinal sign infinity
 two_sums_passing = (refl, refl)
 
 -- ---- the texts are theirs

@@ -1,7 +1,7 @@
 -- 01's starred narrowings: each end by its triple, each bound by one sum that is computed from the definitions, or by the multiples of a power of two. Assumes nothing.
-use mathlib.Core.Path.{◌≡◌, refl, ap, ◌∙◌, subst}
+use mathlib.Core.Path.{refl, ap, ◌∙◌, subst}
 use mathlib.Core.Logic.{inl, inr}
-use Prim.Native.Nat.{ℕ, ◌+◌, ◌-◌, ◌^◌, ◌≤◌, ◌<◌, ◌∣◌}
+use Prim.Native.Nat.{ℕ, ◌+◌, ◌-◌, ◌^◌, ◌<◌, ◌∣◌}
 use native.Mathlib.Omega.{arith}
 use lib.Dec.{lit<, lit≤}
 use lib.Ieee.{size}
@@ -9,19 +9,19 @@ use Rattle.ladder.specs.Magnitude.{magnitude}
 use Rattle.ladder.specs.Rounding.{excess, round}
 use Rattle.ladder.specs.Ordinal.{sign, infinity, ordinal, pattern}
 use Rattle.ladder.specs.Sum.{rounded, sum}
-use Rattle.ladder.specs.Solution.{Interval, In, Solution, Bounded}
-use Rattle.ladder.specs.Narrowing.{Hull, ends, none}
-use Rattle.ladder.specs.Extended.{extended_narrowing}
+use Rattle.ladder.specs.Solution.{Interval, In, Solution}
+use Rattle.ladder.specs.Narrowing.{Hull}
 use Rattle.ladder.proofs.Cases.{le_or_lt}
+use Rattle.ladder.proofs.Hull.{hull_narrowing, none_narrowing}
 use Rattle.ladder.proofs.Solutions.{swap}
 use Rattle.ladder.proofs.Granularity.{digits_free, binade_free}
 use Rattle.ladder.proofs.Clamp.{coarse, not_coarse}
-use Rattle.arith.specs.Intervals.{ends_number, is_ordered}
+use Rattle.arith.specs.Intervals.{ends_finite, is_ordered}
 use Rattle.arith.specs.Formats.{format_of}
 use Rattle.arith.specs.Narrows.{narrow_answer}
 use Rattle.arith.proofs.Callers.{narrow_valid}
 use Rattle.examples.specs.Starred.{Narrowings, interval, point, all64, one64, all32, one32}
-use Rattle.examples.proofs.Bounding.{triple, over, under, shown_hull, x_hull, bounded, by_hull, by_none}
+use Rattle.examples.proofs.Bounding.{triple, over, under, shown_hull, x_hull}
 
 abbrev span : ℕ → ℕ → Interval
 span l h = record { low = l; high = h }
@@ -68,7 +68,7 @@ odd_sums = (lit< tt, lit< tt)
 
 between : (x a b : ℕ) → Solution 52 11 odd two one x a b → ⊥
 between x a b s =
-    let t = swap 52 11 s in
+    let t = swap s in
     let i = s.a_in in
     omega (arith, over 52 11 (lit≤ tt) two odd one two.low a x b odd_sums.0 t, under 52 11 (lit≤ tt) two odd one two.high a x b odd_sums.1 t)
 
@@ -82,7 +82,7 @@ small = span (neg 0x4350000000000000) (neg 0x4340000000000000)
 even : (x a b : ℕ) → Solution 52 11 large small one x a b → ⊥
 unfolding sign infinity
 even x a b s =
-    let t = swap 52 11 s in
+    let t = swap s in
     let i = s.a_in in
     let l = not_coarse 52 11 (lit≤ tt) 1075 small large one (lit< tt) (record { low = lit< tt; high = lit< tt }) (digits_free 52 1023 0x3FF0000000000000 0x3FF0000000000000 (lit< tt) (lit< tt)) a x (record { low = omega (arith, t.is, t.b_in.low); high = omega (arith, t.is, t.b_in.high) }) in
     omega arith
@@ -128,7 +128,7 @@ module _ (x a b : ℕ) (s : Solution 52 11 d_x d_a d_b x a b) where
 
   document_a : In d_a' a
   document_a =
-      let t = swap 52 11 s in
+      let t = swap s in
       let narrow : Solution 52 11 d_a d_x' d_b a x b = record { x_in = t.x_in; a_in = document_x; b_in = t.b_in; is = t.is } in
       record { low = over 52 11 (lit≤ tt) d_a d_x d_b (pos 0x4330000000000000) a x b document_sums.0 t; high = omega (arith, under 52 11 (lit≤ tt) d_a d_x' d_b (pos 0x4340000000000001) a x b document_sums.1 narrow) }
 
@@ -149,7 +149,7 @@ module _ (x a b : ℕ) (s : Solution 52 11 d_x d_a d_b x a b) where
       ]
 
 -- document 000's example
-document : Hull 52 11 d_x d_a d_b d_x' d_a' one
+pub document : Hull 52 11 d_x d_a d_b d_x' d_a' one
 document = shown_hull 52 11 (lit≤ tt) d_x d_a d_b d_x' d_a' one (record {
   x_low = record { a = _; b = _; solution = document_low };
   x_high = record { a = _; b = _; solution = document_high };
@@ -175,65 +175,14 @@ absorbed_32 =
     (triple 23 8 all_32 one_32 one_32 _ _ _ (lit≤ tt) (lit≤ tt) (lit≤ tt) (lit≤ tt) (lit≤ tt) (lit≤ tt) refl)
     refl (2 ^ 31 - 0x33000001) (2 ^ 31 + 0x33800001) refl refl (lit< tt) (lit< tt)
 
--- ---- all of these ends are finite
-wide : 2 ^ 52 ≤ infinity 52 11
-unfolding infinity
-wide = lit≤ tt
-
-record Finites : Type 0 where
-  every : Bounded 52 11 all
-  single : Bounded 52 11 one
-  pair : Bounded 52 11 two
-  between : Bounded 52 11 odd
-  above : Bounded 52 11 large
-  below : Bounded 52 11 small
-  x : Bounded 52 11 d_x
-  a : Bounded 52 11 d_a
-  b : Bounded 52 11 d_b
-
-finites : Finites
-unfolding sign infinity
-finites = record {
-  every = bounded 52 11 all (lit< tt) (lit≤ tt) (lit< tt);
-  single = bounded 52 11 one (lit< tt) (lit≤ tt) (lit< tt);
-  pair = bounded 52 11 two (lit< tt) (lit≤ tt) (lit< tt);
-  between = bounded 52 11 odd (lit< tt) (lit≤ tt) (lit< tt);
-  above = bounded 52 11 large (lit< tt) (lit≤ tt) (lit< tt);
-  below = bounded 52 11 small (lit< tt) (lit≤ tt) (lit< tt);
-  x = bounded 52 11 d_x (lit< tt) (lit≤ tt) (lit< tt);
-  a = bounded 52 11 d_a (lit< tt) (lit≤ tt) (lit< tt);
-  b = bounded 52 11 d_b (lit< tt) (lit≤ tt) (lit< tt);
-}
-
-absorbed_is : extended_narrowing 52 11 all one one ≡ ends (span (neg 0x3C90000000000000) (pos 0x3CA0000000000000)) one one
-absorbed_is = by_hull 52 11 (lit≤ tt) wide all one one finites.every finites.single finites.single _ _ _ absorbed
-
-gap_is : extended_narrowing 52 11 all two one ≡ ends (span (neg 0x3FF0000000000002) (neg 0x3FEFFFFFFFFFFFFF)) two one
-gap_is = by_hull 52 11 (lit≤ tt) wide all two one finites.every finites.pair finites.single _ _ _ gap
-
-between_is : extended_narrowing 52 11 odd two one ≡ none
-between_is = by_none 52 11 (lit≤ tt) wide odd two one finites.between finites.pair finites.single between
-
-even_is : extended_narrowing 52 11 large small one ≡ none
-even_is = by_none 52 11 (lit≤ tt) wide large small one finites.above finites.below finites.single even
-
-pub document_is : extended_narrowing 52 11 d_x d_a d_b ≡ ends d_x' d_a' one
-document_is = by_hull 52 11 (lit≤ tt) wide d_x d_a d_b finites.x finites.a finites.b d_x' d_a' one document
-
-absorbed_32_is : extended_narrowing 23 8 all_32 one_32 one_32 ≡ ends (span (2 ^ 31 - 0x33000000) (2 ^ 31 + 0x33800000)) one_32 one_32
-unfolding sign infinity
-absorbed_32_is =
-    let b = bounded 23 8 one_32 (lit< tt) (lit≤ tt) (lit< tt) in
-    by_hull 23 8 (lit≤ tt) (lit≤ tt) all_32 one_32 one_32 (bounded 23 8 all_32 (lit< tt) (lit≤ tt) (lit< tt)) b b _ _ _ absorbed_32
-
 -- ---- the table
 pub narrowings : Narrowings
-unfolding ends_number is_ordered ordinal pattern sign infinity
+unfolding ends_finite is_ordered ordinal pattern sign infinity
 narrowings = record {
-  absorbed = narrow_valid 64 all64 one64 one64 refl refl refl refl refl refl refl ∙ ap (narrow_answer (format_of 64)) absorbed_is;
-  absorbed_32 = narrow_valid 32 all32 one32 one32 refl refl refl refl refl refl refl ∙ ap (narrow_answer (format_of 32)) absorbed_32_is;
-  gap = narrow_valid 64 all64 (interval 0x4000000000000000 0x4000000000000001) one64 refl refl refl refl refl refl refl ∙ ap (narrow_answer (format_of 64)) gap_is;
-  between = narrow_valid 64 (point 0xBFF0000000000001) (interval 0x4000000000000000 0x4000000000000001) one64 refl refl refl refl refl refl refl ∙ ap (narrow_answer (format_of 64)) between_is;
-  even = narrow_valid 64 (interval 0x4340000000000000 0x4350000000000000) (interval 0xC350000000000000 0xC340000000000000) one64 refl refl refl refl refl refl refl ∙ ap (narrow_answer (format_of 64)) even_is;
-  document_000 = narrow_valid 64 (interval 0xC630000000000000 0xC330000000000000) (interval 0x3FF0000000000000 0x4630000000000000) (interval 0x3FE0000000000000 0x3FF8000000000000) refl refl refl refl refl refl refl ∙ ap (narrow_answer (format_of 64)) document_is;
+  absorbed = narrow_valid 64 all64 one64 one64 refl refl refl refl refl refl refl ∙ ap (narrow_answer (format_of 64)) (hull_narrowing 52 11 all one one _ _ _ absorbed);
+  absorbed_32 = narrow_valid 32 all32 one32 one32 refl refl refl refl refl refl refl ∙ ap (narrow_answer (format_of 32)) (hull_narrowing 23 8 all_32 one_32 one_32 _ _ _ absorbed_32);
+  gap = narrow_valid 64 all64 (interval 0x4000000000000000 0x4000000000000001) one64 refl refl refl refl refl refl refl ∙ ap (narrow_answer (format_of 64)) (hull_narrowing 52 11 all two one _ _ _ gap);
+  between = narrow_valid 64 (point 0xBFF0000000000001) (interval 0x4000000000000000 0x4000000000000001) one64 refl refl refl refl refl refl refl ∙ ap (narrow_answer (format_of 64)) (none_narrowing 52 11 odd two one between);
+  even = narrow_valid 64 (interval 0x4340000000000000 0x4350000000000000) (interval 0xC350000000000000 0xC340000000000000) one64 refl refl refl refl refl refl refl ∙ ap (narrow_answer (format_of 64)) (none_narrowing 52 11 large small one even);
+  document_000 = narrow_valid 64 (interval 0xC630000000000000 0xC330000000000000) (interval 0x3FF0000000000000 0x4630000000000000) (interval 0x3FE0000000000000 0x3FF8000000000000) refl refl refl refl refl refl refl ∙ ap (narrow_answer (format_of 64)) (hull_narrowing 52 11 d_x d_a d_b _ _ _ document);
 }

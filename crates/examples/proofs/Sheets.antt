@@ -9,10 +9,8 @@ use Rattle.ladder.specs.Rounding.{excess, round}
 use Rattle.ladder.specs.Ordinal.{sign, infinity, ordinal, pattern}
 use Rattle.ladder.specs.Sum.{rounded, sum}
 use Rattle.ladder.specs.Narrowing.{any_from, extent_from, ends}
-use Rattle.ladder.specs.Extended.{opposite, extended_sum, makes}
-use Rattle.ladder.proofs.Parts.{makes_decides}
-use Rattle.ladder.proofs.Hull.{narrowing_hull, narrowing_idempotent}
-use Rattle.arith.specs.Intervals.{ends_number, is_ordered, canonical_in, canonical_of}
+use Rattle.ladder.proofs.Hull.{hull_narrowing, narrowing_idempotent}
+use Rattle.arith.specs.Intervals.{ends_finite, is_ordered, canonical_in, canonical_of}
 use Rattle.sheet.specs.declared.kept.Record.{Record}
 use Rattle.propagation.specs.declared.passes.Outcome.TheVariants.{NoTriple, Stopped}
 use Rattle.propagation.specs.declared.narrowing.Run.{Run}
@@ -27,13 +25,13 @@ use Rattle.propagation.proofs.Boxes.{same_not}
 use Rattle.propagation.proofs.Outcomes.{settled_exactly}
 use Rattle.propagation.proofs.KindSteps.{Three, sum_step}
 use Rattle.examples.specs.Starred.{Sheets, interval, point, over, sheet000, two_sums, two_sums_cells}
-use Rattle.examples.proofs.Narrowings.{d_x, d_a, d_b, d_x', d_a', one, document_is}
+use Rattle.examples.proofs.Narrowings.{d_x, d_a, d_b, d_x', d_a', one, document}
 
 -- ---- the two sums that move each other's cells
 two_sums_lem :
     (◌≡◌ {A = Run} (narrow_sheet_of (two_sums 5 two_sums_cells)) (record { sheet = two_sums 5 (point 5 ∷ point 1 ∷ point 5 ∷ point 0 ∷ []); outcome = Stopped 5 }))
     × (◌≡◌ {A = Run} (narrow_sheet_of (two_sums 6 two_sums_cells)) (record { sheet = two_sums 6 two_sums_cells; outcome = NoTriple 6 0 }))
-unfolding narrow_sheet_of test_lists first_fault head_fault cell_fault record_fault named_fault canonical_of canonical_in ends_number is_ordered tidied run_from pass_from step step_from standing solvable some_values same_box fits extent_from any_from makes opposite extended_sum sum rounded round excess magnitude size sign infinity ordinal pattern
+unfolding narrow_sheet_of test_lists first_fault head_fault cell_fault record_fault named_fault canonical_of canonical_in ends_finite is_ordered tidied run_from pass_from step step_from standing solvable some_values same_box fits extent_from any_from sum rounded round excess magnitude size sign infinity ordinal pattern
 two_sums_lem = (refl, refl)
 
 -- ---- document 000's sheet
@@ -57,10 +55,10 @@ by_step c d h = ap (λ (s : Step). pass_by s (pass_from (fits 52 11) [] 1) 0) h
 
 -- the first pass narrows the sum, the second moves nothing
 moves : pass (fits 52 11) records first ≡ whole last
-moves = by_step first last (sum_step 52 11 first (over 0 1 2) refl (three first refl) (ends d_x' d_a' one) document_is)
+moves = by_step first last (sum_step 52 11 first (over 0 1 2) refl (three first refl) (ends d_x' d_a' one) (hull_narrowing 52 11 d_x d_a d_b d_x' d_a' one document))
 
 still : pass (fits 52 11) records last ≡ whole last
-still = by_step last last (sum_step 52 11 last (over 0 1 2) refl (three last refl) (ends d_x' d_a' one) (narrowing_idempotent (makes_decides 52 11) d_x d_a d_b d_x' d_a' one (narrowing_hull (makes_decides 52 11) d_x d_a d_b d_x' d_a' one document_is)))
+still = by_step last last (sum_step 52 11 last (over 0 1 2) refl (three last refl) (ends d_x' d_a' one) (narrowing_idempotent 52 11 d_x d_a d_b d_x' d_a' one document))
 
 other : first ≡ last → ⊥
 unfolding same_box
@@ -71,7 +69,7 @@ run_settles = (settled_exactly (fits 52 11) records 10 first (omega arith) 2 las
 
 -- ---- the table
 pub sheets : Sheets
-unfolding narrow_sheet_of test_lists first_fault head_fault cell_fault record_fault named_fault canonical_of canonical_in ends_number is_ordered tidied ordinal pattern sign infinity
+unfolding narrow_sheet_of test_lists first_fault head_fault cell_fault record_fault named_fault canonical_of canonical_in ends_finite is_ordered tidied ordinal pattern sign infinity
 sheets = record {
   settles = ap (ran_on (sheet000 (interval 0xC630000000000000 0xC330000000000000 ∷ interval 0x3FF0000000000000 0x4630000000000000 ∷ interval 0x3FE0000000000000 0x3FF8000000000000 ∷ []))) run_settles;
   stops = two_sums_lem.0;

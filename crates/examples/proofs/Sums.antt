@@ -6,10 +6,9 @@ use Rattle.ladder.specs.Rounding.{excess, round}
 use Rattle.ladder.specs.Ordinal.{sign, infinity, ordinal, pattern}
 use Rattle.ladder.specs.Sum.{rounded, sum}
 use Rattle.ladder.specs.Remainder.{remainder}
-use Rattle.ladder.specs.Extended.{opposite, extended_sum}
-use Rattle.arith.specs.Sums.{is_exact, finite_mark, mark_of, remainder_of, sum_answer, add_in, add_of}
+use Rattle.arith.specs.Sums.{is_finite_ordinal, is_exact, mark_of, in_range, add_in, add_of}
 use Rattle.examples.specs.Starred.{Sums}
 
 pub sums : Sums
-unfolding add_of add_in sum_answer mark_of remainder_of finite_mark is_exact opposite extended_sum sum remainder rounded round excess magnitude size sign infinity ordinal pattern
+unfolding add_of add_in in_range is_finite_ordinal mark_of is_exact sum remainder rounded round excess magnitude size sign infinity ordinal pattern
 sums = record { tie = refl; past_tie = refl; smallest = refl; largest = refl; too_large = refl; tie_32 = refl }

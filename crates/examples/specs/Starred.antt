@@ -2,7 +2,7 @@
 -- Document 000 is D. Gallois-Wong, S. Boldo, P. Cuoq, Optimal Inverse Projection of Floating-Point Addition.
 use Rattle.std.specs.Prelude.{◌≡◌, List, [], ◌∷◌, ℕ, length}
 use Prim.Native.String.{String, ◌++◌}
-use Rattle.arith.specs.declared.sum.Sum.TheVariants.{Is}
+use Rattle.arith.specs.declared.sum.Sum.TheVariants.{Is, Refused}
 use Rattle.arith.specs.declared.interval.Interval.{Interval}
 use Rattle.arith.specs.declared.narrow.Narrowed.TheVariants.{Ends}
 use Rattle.arith.specs.declared.narrow.Narrowed.TheVariants as Narrowed
@@ -27,8 +27,8 @@ pub record Sums : Type 0 where
   pub smallest : add_of 64 0x0000000000000001 0x0000000000000001 ≡ Is 0x0000000000000002 0 0x0000000000000000
   -- the largest float and less than half its ulp
   pub largest : add_of 64 0x7FEFFFFFFFFFFFFF 0x7C80000000000000 ≡ Is 0x7FEFFFFFFFFFFFFF 1 0x7C80000000000000
-  -- the largest float and half its ulp: infinity (02, R-5)
-  pub too_large : add_of 64 0x7FEFFFFFFFFFFFFF 0x7C90000000000000 ≡ Is 0x7FF0000000000000 1 0x0000000000000000
+  -- the largest float and half its ulp: no finite sum
+  pub too_large : add_of 64 0x7FEFFFFFFFFFFFFF 0x7C90000000000000 ≡ Refused (refusal 9)
   -- the tie at width 32
   pub tie_32 : add_of 32 0x3F800000 0x33800000 ≡ Is 0x3F800000 1 0x33800000
 

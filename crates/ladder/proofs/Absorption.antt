@@ -19,7 +19,7 @@ use Rattle.ladder.proofs.Cases.{le_or_lt}
 use Rattle.ladder.proofs.Magnitude.{parts, magnitude_parts, magnitude_lt, magnitude_le, magnitude_zero, lt_of_magnitude}
 use Rattle.ladder.proofs.Ordinals.{infinity_lt_sign, finite_twice}
 use Rattle.ladder.proofs.Sum.{sum_mono, sum_mirror}
-use Rattle.ladder.proofs.Solutions.{finite_in, in_reflection, in_reflected, mirror_bounded, bounded_numbers}
+use Rattle.ladder.proofs.Solutions.{finite_in, in_reflection, in_reflected, mirror_bounded}
 use Rattle.ladder.proofs.Reflection.{in_twice, mirror_spans}
 use Rattle.ladder.proofs.Hull.{same_spans}
 use Rattle.ladder.proofs.Extremes.{spans_of}
@@ -226,8 +226,8 @@ module _ (f e : ℕ) (some : 1 ≤ f) where
 
     pair_mirrored : (x a : ℕ) → Pair (absorbs f e) X' A' x a → Pair (absorbs f e) X A (mirrored f e x) (mirrored f e a)
     pair_mirrored x a w = record {
-      p_in = in_reflected f e X (bounded_numbers nx) x w.p_in;
-      q_in = in_reflected f e A (bounded_numbers na) a w.q_in;
+      p_in = in_reflected f e X nx x w.p_in;
+      q_in = in_reflected f e A na a w.q_in;
       passes = mirrors x a (finite_in f e X' (mirror_bounded f e X nx) x w.p_in) (finite_in f e A' (mirror_bounded f e A na) a w.q_in) w.passes;
     }
 
@@ -249,21 +249,21 @@ module _ (f e : ℕ) (some : 1 ≤ f) where
 
     first_back : (y : ℕ) → In X y → HasFirst (absorbs f e) X' A' (mirrored f e y) → HasFirst (absorbs f e) X A y
     first_back y i w =
-        let twice : mirrored f e (mirrored f e y) ≡ y = omega (arith, in_twice f e X (bounded_numbers nx) y i) in
+        let twice : mirrored f e (mirrored f e y) ≡ y = omega (arith, in_twice f e X nx y i) in
         record { q = mirrored f e w.q; pair = subst (λ (z : ℕ). Pair (absorbs f e) X A z (mirrored f e w.q)) twice (pair_mirrored (mirrored f e y) w.q w.pair) }
 
     second_back : (y : ℕ) → In A y → HasSecond (absorbs f e) X' A' (mirrored f e y) → HasSecond (absorbs f e) X A y
     second_back y i w =
-        let twice : mirrored f e (mirrored f e y) ≡ y = omega (arith, in_twice f e A (bounded_numbers na) y i) in
+        let twice : mirrored f e (mirrored f e y) ≡ y = omega (arith, in_twice f e A na y i) in
         subst (HasSecond (absorbs f e) X A) twice (second_mirrored (mirrored f e y) w)
 
     pub mirror_hull : (P Q : Interval) → PairHull (absorbs f e) X' A' P Q → PairHull (absorbs f e) X A (reflection f e P) (reflection f e Q)
     mirror_hull P Q h = record {
       firsts = same_spans (λ y w. first_back y w.0 w.1)
           (λ y w. (w.pair.p_in, record { q = mirrored f e w.q; pair = pair_mirror y w.q w.pair }))
-          (reflection f e P) (mirror_spans f e X (bounded_numbers nx) (HasFirst (absorbs f e) X' A') (λ y w. w.pair.p_in) P h.firsts);
+          (reflection f e P) (mirror_spans f e X nx (HasFirst (absorbs f e) X' A') (λ y w. w.pair.p_in) P h.firsts);
       seconds = same_spans (λ y w. second_back y w.0 w.1) (λ y w. (w.pair.q_in, second_mirror y w))
-          (reflection f e Q) (mirror_spans f e A (bounded_numbers na) (HasSecond (absorbs f e) X' A') (λ y w. w.pair.q_in) Q h.seconds);
+          (reflection f e Q) (mirror_spans f e A na (HasSecond (absorbs f e) X' A') (λ y w. w.pair.q_in) Q h.seconds);
     }
 
   -- ---- zero is inside A: every x stays

@@ -1,4 +1,4 @@
--- A difference of finite floats with one float in two or three places comes to a double or to zero: x ⊖ a = a says that a ⊕ a = x, x ⊖ x is zero; and x ⊕ x = x says that x is zero. With infinities among the numbers, Coincidences has it. Rests on Doubling and Absorbing.
+-- A sum or a difference with one float in two or three places comes to a double, to an absorption, or to zero: x ⊖ a = a says that a ⊕ a = x, x ⊕ x = x that x is zero, and x ⊖ x is zero; and so do the narrowings of two intervals by these tests. Rests on Doubling and Absorbing.
 use mathlib.Core.Path.{◌≡◌, sym, ap, ◌∙◌, subst}
 use mathlib.Core.Logic.{◌↔◌, inl, inr}
 use mathlib.Core.Bool.{Bool}
@@ -7,19 +7,19 @@ use native.Mathlib.Nat.{le_refl}
 use native.Mathlib.Omega.{arith}
 use lib.Dec.{T, eqb, eqb→eq, eqb_refl}
 use lib.Pow.{pow_pos}
-use borrow.Author.Tests.{lt-ltb, le-ltb}
+use borrow.Author.Tests.{lt-ltb, le-ltb, eq-eqb, ne_eqb}
 use Rattle.ladder.specs.Magnitude.{magnitude}
 use Rattle.ladder.specs.Ordinal.{sign, above, mirrored, Finite}
 use Rattle.ladder.specs.Sum.{gains, losses, sum}
 use Rattle.ladder.specs.Solution.{Interval, In, Bounded}
 use Rattle.ladder.specs.Halves.{doubled}
-use Rattle.ladder.specs.Pairing.{ends, pairing, Pair}
-use Rattle.ladder.proofs.Cases.{le_or_lt, trichotomy}
+use Rattle.ladder.specs.Pairing.{none, ends, pairing, Pair, doubles, absorbs}
+use Rattle.ladder.proofs.Cases.{le_or_lt, trichotomy, equal_or_not}
 use Rattle.ladder.proofs.Magnitude.{magnitude_lt}
 use Rattle.ladder.proofs.Ordinals.{infinity_lt_sign, above_none, below_none, mirror_finite, finite_twice}
-use Rattle.ladder.proofs.Sum.{sum_mirror, sum_range, rounded_value, above_mirror, below_mirror}
+use Rattle.ladder.proofs.Sum.{sum_comm, sum_mirror, sum_range, rounded_value, above_mirror, below_mirror}
 use Rattle.ladder.proofs.Solutions.{finite_in}
-use Rattle.ladder.proofs.Pairing.{pairing_unique}
+use Rattle.ladder.proofs.Pairing.{pairing_unique, pairing_agree}
 use Rattle.ladder.proofs.Doubling.{magnitude_doubled, sum_doubled_up, sum_doubled_down, halving, halves}
 use Rattle.ladder.proofs.Absorbing.{sum_zero}
 
@@ -97,7 +97,21 @@ module _ (f e : ℕ) (some : 1 ≤ f) where
     ]
   ]
 
-  -- ---- the narrowing of two intervals by x ⊖ x
+  -- ---- the narrowings of two intervals by these tests
+  eqb_same : (a b c d : ℕ) → (a ≡ b) ↔ (c ≡ d) → eqb a b ≡ eqb c d
+  eqb_same a b c d h = elim (equal_or_not a b) [
+    | inl e ↦ eq-eqb a b e ∙ sym (eq-eqb c d (h.0 e))
+    | inr n ↦ ne_eqb a b n ∙ sym (ne_eqb c d (λ e. n (h.1 e)))
+  ]
+
+  -- x ⊕ a = a: a absorbs x
+  pub absorbs_other : (A X : Interval) → pairing (λ a x. eqb (sum f e x a) a) A X ≡ pairing (absorbs f e) A X
+  absorbs_other A X = pairing_agree _ _ A X (λ a x i j. ap (λ (y : ℕ). eqb y a) (sum_comm f e x a))
+
+  -- x ⊖ a = a: x is twice a
+  pub difference_pairing : (A X : Interval) → Bounded f e A → Bounded f e X → pairing (λ a x. eqb (sum f e x (mirrored f e a)) a) A X ≡ pairing (doubles f e) A X
+  difference_pairing A X p q = pairing_agree _ _ A X (λ a x i j. eqb_same _ _ _ _ (difference_doubles x a (finite_in f e X q x j) (finite_in f e A p a i)))
+
   -- x ⊖ x = b: b is zero, and every x stays
   module _ (X B : Interval) (n : Bounded f e X) where
     abbrev zero_test : ℕ → ℕ → Bool
@@ -108,6 +122,9 @@ module _ (f e : ℕ) (some : 1 ≤ f) where
 
     zero_pair : (x : ℕ) → In X x → In B s → Pair zero_test X B x s
     zero_pair x i z = record { p_in = i; q_in = z; passes = subst (λ (y : ℕ). T (eqb y s)) (sym (difference_self x (finite_in f e X n x i))) (eqb_refl s) }
+
+    pub zero_none : (In B s → ⊥) → pairing zero_test X B ≡ none
+    zero_none z = sym (pairing_unique zero_test X B none (λ x b w. z (subst (In B) (zero_is x b w) w.q_in)))
 
     pub zero_ends : X.low ≤ X.high → In B s → pairing zero_test X B ≡ ends X (record { low = s; high = s })
     zero_ends o z =

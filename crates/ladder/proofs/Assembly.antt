@@ -4,13 +4,13 @@ use Prim.Native.Nat.{ℕ}
 use Rattle.ladder.specs.Solution.{Interval}
 use Rattle.ladder.specs.Narrowing.{none, ends, narrowing, HasX, HasA, HasB, Spans}
 use Rattle.ladder.specs.Search.{Never}
-use Rattle.ladder.proofs.Narrowing.{narrowing_unique, adds_decides}
-use Rattle.ladder.proofs.Solutions.{Kept, carried_b, swap_spans}
+use Rattle.ladder.proofs.Narrowing.{narrowing_unique}
+use Rattle.ladder.proofs.Solutions.{Kept, kept_b, swap_spans}
 use Rattle.ladder.proofs.Hull.{Within, in_within, spans_within, same_spans}
 
 module _ (f e : ℕ) (X A B : Interval) where
   pub never_x : Never (HasX f e X A B) → none ≡ narrowing f e X A B
-  never_x n = narrowing_unique (adds_decides f e) X A B none (λ x a b s. n x (record { a = a; b = b; solution = s }))
+  never_x n = narrowing_unique f e X A B none (λ x a b s. n x (record { a = a; b = b; solution = s }))
 
   pub x_within : (X' : Interval) → Spans (HasX f e X A B) X' → Within X X'
   x_within X' = spans_within (HasX f e X A B) X X' (λ y w. w.solution.x_in)
@@ -33,5 +33,5 @@ module _ (f e : ℕ) (X A B : Interval) where
 
     pub assembled : (B' : Interval) → Spans (HasB f e X' A' B) B' → ends X' A' B' ≡ narrowing f e X A B
     assembled B' r =
-        narrowing_unique (adds_decides f e) X A B (ends X' A' B')
-        (record { xs = p; «as» = a_spans; bs = same_spans (carried_b X' A' B X A B narrowed_given) (carried_b X A B X' A' B narrowed_kept) B' r })
+        narrowing_unique f e X A B (ends X' A' B')
+        (record { xs = p; «as» = a_spans; bs = same_spans (kept_b f e X' A' B X A B narrowed_given) (kept_b f e X A B X' A' B narrowed_kept) B' r })

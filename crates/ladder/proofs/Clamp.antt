@@ -65,7 +65,7 @@ module _ (f e : ℕ) (some : 1 ≤ f) where
     pub raised_kept : Kept f e X A B (raised f e k X) (raised f e k A) B
     raised_kept x a b r = record {
       x_in = in_raised X x r.x_in (not_coarse x a (at r));
-      a_in = in_raised A a r.a_in (not_coarse a x (at (swap f e r)));
+      a_in = in_raised A a r.a_in (not_coarse a x (at (swap r)));
       b_in = r.b_in;
       is = r.is;
     }

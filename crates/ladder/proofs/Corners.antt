@@ -9,6 +9,6 @@ use Rattle.ladder.proofs.Solutions.{swap, swap_x}
 pub corners_span : {f e : ℕ} {X A B : Interval} {x a b c z d : ℕ} → Corner f e X A B x a b → Corner f e A X B c z d → Spans (HasX f e X A B) (record { low = x; high = z })
 corners_span {f} {e} {X} {A} {B} {x} {a} {b} {c} {z} {d} p q = record {
   low = record { a = a; b = b; solution = p.solution };
-  high = record { a = c; b = d; solution = swap f e q.solution };
+  high = record { a = c; b = d; solution = swap q.solution };
   all = λ y w. record { low = p.frontier.least y w; high = q.frontier.most y (swap_x f e A X B y w) };
 }

@@ -52,8 +52,8 @@ module _ (f e : ℕ) (some : 1 ≤ f) (X A B : Interval) where
         )
 
     -- ---- the sum is past B
-    pub lower_end_lem : Never (Stays f e x B.high (record { low = A.low; high = a })) → Never (HasX f e X A B)
-    lower_end_lem n y w = n w.a (remains w.a (record { x = y; b = w.b; solution = w.solution }))
+    pub lower_end : Never (Stays f e x B.high (record { low = A.low; high = a })) → Never (HasX f e X A B)
+    lower_end n y w = n w.a (remains w.a (record { x = y; b = w.b; solution = w.solution }))
 
     pub lower_next : B.high < sum f e x a → (y : ℕ) → Greatest (Stays f e x B.high (record { low = A.low; high = a })) y → (y < a) × Frontier f e X A B x y
     lower_next h y g =

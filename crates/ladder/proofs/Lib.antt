@@ -13,7 +13,6 @@ pub mod Nearest
 pub mod Values
 pub mod Truncation
 pub mod Threshold
-pub mod Lifting
 pub mod Ieee
 pub mod Standard
 pub mod Comparison
@@ -39,9 +38,6 @@ pub mod Trimming
 pub mod Exactness
 pub mod Remainder
 pub mod Reflection
-pub mod Relations
-pub mod Parts
-pub mod Reaching
 pub mod Pairing
 pub mod Differences
 pub mod Doubling
@@ -49,4 +45,3 @@ pub mod Halves
 pub mod Absorbing
 pub mod Absorption
 pub mod Alike
-pub mod Coincidences

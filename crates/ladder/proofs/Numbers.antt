@@ -1,27 +1,67 @@
--- A number's pattern, finite or an infinity's, as the kit's lib.Ieee takes it: it is no NaN's and is read back, two of them compare as their ordinals do, and the sum of two is R-5's extended_sum, a NaN exactly for opposite infinities. Rests on Standard, Comparison and Lifting.
+-- A number's pattern, finite or an infinity's, as the kit's lib.Ieee takes it: it is no NaN's, two of them compare as their ordinals do, and the sum of a number and a finite pattern is a number. Rests on Standard and Comparison.
 use mathlib.Core.Path.{◌≡◌, refl, sym, ap, ap₂, ◌∙◌, subst}
 use mathlib.Core.Logic.{inl, inr}
-use mathlib.Core.Bool.{Bool, true, false, not, cond, ◌&&◌, ◌||◌, beq}
+use mathlib.Core.Bool.{Bool, true, false, not, ◌&&◌, ◌||◌}
 use Prim.Native.Nat.{ℕ, ◌+◌, ◌-◌, ◌*◌, ◌%◌, ◌^◌, ◌≤◌, ◌<◌}
 use native.Mathlib.Nat.{mod-eq_of_lt, mod-eq-sub-mod}
 use native.Mathlib.Omega.{arith}
-use lib.Dec.{T, leb, ltb, eqb, nltb→le, lit≤}
+use lib.Dec.{T, leb, ltb, eqb, nltb→le}
 use lib.Arith.{le→nltb}
 use lib.Pow.{pow_pos}
-use lib.Ieee.{Float, nan, inf, fin, Format, binary32, binary64, low, up, down, hid, ones, top, of_bits, to_bits, is_nan, nan_bits, add, lt, eq, le}
-use lib.Ieee.Fits.{two, add-fits, inf-fits}
-use lib.Ieee.Bits.{nan_bits_is, nan_bits_above, of_bits-to_bits, to_bits-of_bits, to_bits-lt, is_false}
+use lib.Ieee.{Float, nan, inf, fin, Format, low, up, down, hid, ones, top, of_bits, to_bits, is_nan, nan_bits, add, lt, eq, le}
+use lib.Ieee.Fits.{add-fits, inf-fits}
+use lib.Ieee.Bits.{nan_bits_is, nan_bits_above, of_bits-to_bits, to_bits-lt}
 use lib.Ieee.Exact.{HasValue}
-use borrow.Author.Tests.{lt-ltb, le-ltb}
+use borrow.Author.Tests.{lt-ltb, le-ltb, le-leb, leb-true}
 use Rattle.ladder.specs.Magnitude.{magnitude}
 use Rattle.ladder.specs.Ordinal.{sign, infinity, is_finite, is_number, ordinal, Finite}
-use Rattle.ladder.specs.Extended.{opposite, extended_sum}
 use Rattle.ladder.proofs.Cases.{le_or_lt}
-use Rattle.ladder.proofs.Ordinals.{infinity_lt_sign, number_low, number_high, number_fits, low_number, high_number, low_finite, high_finite, ordinal_finite}
-use Rattle.ladder.proofs.Lifting.{infinity_wide, apart_left, apart_right, apart_over, apart_under, opposite_up, opposite_down, extended_finite, extended_upper, extended_lower, extended_right, inf_top, inf_bottom}
+use Rattle.ladder.proofs.Ordinals.{infinity_lt_sign, finite_low, finite_high, ordinal_low, ordinal_high, ordinal_finite}
 use Rattle.ladder.proofs.Ieee.{frac, bits_inf}
-use Rattle.ladder.proofs.Standard.{exponents, sign_is, infinity_is, signed_bits, signed, ordinal_bits, value_of, read_pattern, add_sum, sum_number_lem}
+use Rattle.ladder.proofs.Standard.{exponents, sign_is, infinity_is, signed_bits, signed, ordinal_bits, value_of, read_pattern, sum_number_lem}
 use Rattle.ladder.proofs.Comparison.{neither, eqb_neither, leb_or, level_neither, lt_order}
+
+-- ---- numbers by their m
+module _ (f e : ℕ) where
+  abbrev s : ℕ
+  s = sign f e
+
+  number_low : (p : ℕ) → is_number f e p ≡ true → p < s → p ≤ infinity f e
+  number_low p h l = leb-true _ _ (simp (lt-ltb _ _ l) at h)
+
+  number_high : (p : ℕ) → is_number f e p ≡ true → s ≤ p → p - s ≤ infinity f e
+  number_high p h l = leb-true _ _ (simp (le-ltb _ _ l) at h)
+
+  low_number : (p : ℕ) → p < s → p ≤ infinity f e → is_number f e p ≡ true
+  low_number p l h = simp (lt-ltb _ _ l, le-leb _ _ h)
+
+  high_number : (p : ℕ) → s ≤ p → p - s ≤ infinity f e → is_number f e p ≡ true
+  high_number p l h = simp (le-ltb _ _ l, le-leb _ _ h)
+
+  low_finite : (p : ℕ) → p < s → p < infinity f e → is_finite f e p ≡ true
+  low_finite p l h = simp (lt-ltb _ _ l, lt-ltb _ _ h)
+
+  high_finite : (p : ℕ) → s ≤ p → p - s < infinity f e → is_finite f e p ≡ true
+  high_finite p l h = simp (le-ltb _ _ l, lt-ltb _ _ h)
+
+  pub finite_number : (p : ℕ) → is_finite f e p ≡ true → is_number f e p ≡ true
+  finite_number p h = elim (le_or_lt s p) [
+    | inl l ↦ high_number p l (omega (arith, finite_high f e p h l))
+    | inr l ↦ low_number p l (omega (arith, finite_low f e p h l))
+  ]
+
+  -- a number is finite where its ordinal is
+  pub number_finite : (p : ℕ) → is_number f e p ≡ true → Finite f e (ordinal f e p) → is_finite f e p ≡ true
+  number_finite p h n = elim (le_or_lt s p) [
+    | inl l ↦ high_finite p l (omega (arith, n.low, ordinal_high f e p l, number_high p h l, infinity_lt_sign f e))
+    | inr l ↦ low_finite p l (omega (arith, n.high, ordinal_low f e p l))
+  ]
+
+  pub number_fits : (p : ℕ) → is_number f e p ≡ true → p < 2 * sign f e
+  number_fits p h = elim (le_or_lt s p) [
+    | inl l ↦ omega (arith, number_high p h l, infinity_lt_sign f e)
+    | inr l ↦ omega arith
+  ]
 
 -- ---- equal is neither less nor greater, for any two values but NaN's
 eq_neither : (x y : Float) → T (not (is_nan x)) → T (not (is_nan y)) → eq x y ≡ neither (lt x y) (lt y x)
@@ -57,27 +97,6 @@ unfolding add
 inf_add F b nan t A L h = absurd h
 inf_add F b (inf u) t A L h = absurd h
 inf_add F b (fin u m d) t A L h = refl
-
-add_inf : (F : Format) (b : Bool) (y : Float) (t : Bool) (A L : ℕ) → HasValue y t A L → add F y (inf b) ≡ inf b
-unfolding add
-add_inf F b nan t A L h = absurd h
-add_inf F b (inf u) t A L h = absurd h
-add_inf F b (fin u m d) t A L h = refl
-
-add_infs : (F : Format) (b c : Bool) → add F (inf b) (inf c) ≡ cond (beq b c) (inf b) nan
-unfolding add
-add_infs F b c = refl
-
-nan_inf : (b : Bool) → is_nan (inf b) ≡ false
-unfolding is_nan
-nan_inf b = refl
-
-nan_nan : is_nan nan ≡ true
-unfolding is_nan
-nan_nan = refl
-
-not_nan : (z : Float) → T (not (is_nan z)) → is_nan z ≡ false
-not_nan z h = is_false (is_nan z) h
 
 lt_infs : (b c : Bool) → lt (inf b) (inf c) ≡ (b && not c)
 unfolding lt
@@ -117,10 +136,6 @@ module _ (F : Format) where
 
   number_value : (p : ℕ) → is_number f e p ≡ true → T (not (is_nan (of_bits F p)))
   number_value p h = subst (λ (b : Bool). T (not b)) (nan_bits_is F p) (number_bits p h)
-
-  -- the value read from a number's pattern has this pattern
-  pub pattern_read : (p : ℕ) → is_number f e p ≡ true → to_bits F (of_bits F p) ≡ p
-  pattern_read p h = to_bits-of_bits F p (subst (λ (t : ℕ). p < 2 * t) (sign_is F) (number_fits f e p h)) (number_value p h)
 
   bits_number : (p : ℕ) → p < 2 * top F → T (not (nan_bits F p)) → is_number f e p ≡ true
   bits_number p w h =
@@ -201,7 +216,7 @@ module _ (F : Format) where
           ∙ sym (ap (λ (n : ℕ). ltb n (ordinal f e y)) p ∙ infinity_lt b (ordinal f e y) (ordinal_finite f e y B))
       go (infinite b i p) (infinite c j q) = ap₂ lt i j ∙ lt_infs b c ∙ sym (ap₂ ltb p q ∙ infinities_lt b c some)
 
-  pub number_eq : (x y : ℕ) → is_number f e x ≡ true → is_number f e y ≡ true → eq (of_bits F x) (of_bits F y) ≡ eqb (ordinal f e x) (ordinal f e y)
+  number_eq : (x y : ℕ) → is_number f e x ≡ true → is_number f e y ≡ true → eq (of_bits F x) (of_bits F y) ≡ eqb (ordinal f e x) (ordinal f e y)
   number_eq x y X Y =
       eq_neither (of_bits F x) (of_bits F y) (number_value x X) (number_value y Y)
       ∙ ap₂ neither (number_lt x y X Y) (number_lt y x Y X)
@@ -226,71 +241,3 @@ module _ (F : Format) where
       let z = add F (of_bits F x) (of_bits F a) in
       let w = add-fits F (of_bits F x) (of_bits F a) in
       bits_number (to_bits F z) (to_bits-lt F z w) (subst (λ (b : Bool). T (not b)) (sym (nan_bits_is F (to_bits F z) ∙ ap is_nan (of_bits-to_bits F z w))) (number_add x a X A))
-
-  -- ---- two numbers: opposite infinities have no sum, and every other pair has the extended_sum
-  some_fraction : 1 ≤ f
-  some_fraction = omega (arith, two F)
-
-  some_exponent : (F : Format) → 1 ≤ exponents F
-  some_exponent binary32 = lit≤ tt
-  some_exponent binary64 = lit≤ tt
-
-  wide : 2 ^ f ≤ cap
-  wide = infinity_wide f e (some_exponent F)
-
-  inf_ordinal : (b : Bool) → ordinal f e (to_bits F (inf b)) ≡ signed F b cap
-  inf_ordinal b = ap (ordinal f e) (bits_inf F b ∙ ap (signed_bits F b) (sym (infinity_is F))) ∙ ordinal_bits F b cap (omega arith)
-
-  -- the ordinal n of an infinity beside another number
-  inf_left : (b : Bool) (n a : ℕ) → n ≡ signed F b cap → extended_sum f e n a ≡ signed F b cap
-  inf_left true n a h = extended_lower f e some_fraction wide n a (omega (arith, infinity_lt_sign f e)) ∙ h
-  inf_left false n a h = extended_upper f e some_fraction wide n a h ∙ h
-
-  inf_right : (b : Bool) (x n : ℕ) → Finite f e x → n ≡ signed F b cap → extended_sum f e x n ≡ signed F b cap
-  inf_right true x n X h = extended_right f e some_fraction wide x n X (inf_bottom f e some_fraction wide n (omega (arith, infinity_lt_sign f e))) ∙ h
-  inf_right false x n X h = extended_right f e some_fraction wide x n X (inf_top f e some_fraction wide n h) ∙ h
-
-  infinities_opposite : (b c : Bool) (x a : ℕ) → x ≡ signed F b cap → a ≡ signed F c cap → is_nan (cond (beq b c) (inf b) nan) ≡ opposite f e x a
-  infinities_opposite true true x a h g = nan_inf true ∙ sym (apart_under f e some_fraction wide x a (omega (arith, some)) (omega (arith, some)))
-  infinities_opposite true false x a h g = nan_nan ∙ sym (opposite_down f e some_fraction wide x a (omega (arith, infinity_lt_sign f e)) g)
-  infinities_opposite false true x a h g = nan_nan ∙ sym (opposite_up f e some_fraction wide x a h (omega (arith, infinity_lt_sign f e)))
-  infinities_opposite false false x a h g = nan_inf false ∙ sym (apart_over f e some_fraction wide x a (omega (arith, some)) (omega (arith, some)))
-
-  -- NaN exactly for opposite infinities
-  pub number_nan : (x a : ℕ) → is_number f e x ≡ true → is_number f e a ≡ true → is_nan (add F (of_bits F x) (of_bits F a)) ≡ opposite f e (ordinal f e x) (ordinal f e a)
-  number_nan x a X A = go (kind x X) (kind a A)
-    where
-      go : Kind x → Kind a → is_nan (add F (of_bits F x) (of_bits F a)) ≡ opposite f e (ordinal f e x) (ordinal f e a)
-      go (finite B) (finite C) = not_nan _ (sum_number_lem F x a B C) ∙ sym (apart_left f e some_fraction wide (ordinal f e x) (ordinal f e a) (ordinal_finite f e x B))
-      go (finite B) (infinite c j q) =
-          let v = finite_value x B in
-          ap is_nan (ap (add F (of_bits F x)) j ∙ add_inf F c (of_bits F x) v.b v.n (2 ^ low F) v.has) ∙ nan_inf c
-          ∙ sym (apart_left f e some_fraction wide (ordinal f e x) (ordinal f e a) (ordinal_finite f e x B))
-      go (infinite b i p) (finite C) =
-          let v = finite_value a C in
-          ap is_nan (ap (λ (z : Float). add F z (of_bits F a)) i ∙ inf_add F b (of_bits F a) v.b v.n (2 ^ low F) v.has) ∙ nan_inf b
-          ∙ sym (apart_right f e some_fraction wide (ordinal f e x) (ordinal f e a) (ordinal_finite f e a C))
-      go (infinite b i p) (infinite c j q) = ap is_nan (ap₂ (add F) i j ∙ add_infs F b c) ∙ infinities_opposite b c (ordinal f e x) (ordinal f e a) p q
-
-  infinities_sum : (b c : Bool) (x a : ℕ) → x ≡ signed F b cap → a ≡ signed F c cap → opposite f e x a ≡ false → ordinal f e (to_bits F (cond (beq b c) (inf b) nan)) ≡ extended_sum f e x a
-  infinities_sum true true x a h g n = inf_ordinal true ∙ sym (inf_left true x a h)
-  infinities_sum true false x a h g n = absurd (let z : true ≡ false = sym (opposite_down f e some_fraction wide x a (omega (arith, infinity_lt_sign f e)) g) ∙ n in let y : ◌≡◌ {A = ℕ} 0 1 = cc in omega arith)
-  infinities_sum false true x a h g n = absurd (let z : true ≡ false = sym (opposite_up f e some_fraction wide x a h (omega (arith, infinity_lt_sign f e))) ∙ n in let y : ◌≡◌ {A = ℕ} 0 1 = cc in omega arith)
-  infinities_sum false false x a h g n = inf_ordinal false ∙ sym (inf_left false x a h)
-
-  -- and every other pair has the extended_sum
-  pub number_sums : (x a : ℕ) → is_number f e x ≡ true → is_number f e a ≡ true → opposite f e (ordinal f e x) (ordinal f e a) ≡ false
-      → ordinal f e (to_bits F (add F (of_bits F x) (of_bits F a))) ≡ extended_sum f e (ordinal f e x) (ordinal f e a)
-  number_sums x a X A n = go (kind x X) (kind a A)
-    where
-      go : Kind x → Kind a → ordinal f e (to_bits F (add F (of_bits F x) (of_bits F a))) ≡ extended_sum f e (ordinal f e x) (ordinal f e a)
-      go (finite B) (finite C) = add_sum F x a B C ∙ sym (extended_finite f e some_fraction wide (ordinal f e x) (ordinal f e a) (ordinal_finite f e x B) (ordinal_finite f e a C))
-      go (finite B) (infinite c j q) =
-          let v = finite_value x B in
-          ap (λ (z : Float). ordinal f e (to_bits F z)) (ap (add F (of_bits F x)) j ∙ add_inf F c (of_bits F x) v.b v.n (2 ^ low F) v.has) ∙ inf_ordinal c
-          ∙ sym (inf_right c (ordinal f e x) (ordinal f e a) (ordinal_finite f e x B) q)
-      go (infinite b i p) (finite C) =
-          let v = finite_value a C in
-          ap (λ (z : Float). ordinal f e (to_bits F z)) (ap (λ (z : Float). add F z (of_bits F a)) i ∙ inf_add F b (of_bits F a) v.b v.n (2 ^ low F) v.has) ∙ inf_ordinal b
-          ∙ sym (inf_left b (ordinal f e x) (ordinal f e a) p)
-      go (infinite b i p) (infinite c j q) = ap (λ (z : Float). ordinal f e (to_bits F z)) (ap₂ (add F) i j ∙ add_infs F b c) ∙ infinities_sum b c (ordinal f e x) (ordinal f e a) p q n

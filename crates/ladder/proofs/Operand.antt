@@ -8,7 +8,7 @@ use Rattle.ladder.specs.Solution.{Interval, Bounded}
 use Rattle.ladder.specs.Search.{Never, Least, Greatest, Attains, Stays, reflection}
 use Rattle.ladder.proofs.Sum.{sum_mirror}
 use Rattle.ladder.proofs.Extremes.{mirror_never, mirror_greatest}
-use Rattle.ladder.proofs.Solutions.{in_reflection, in_reflected, finite_in, mirror_bounded, bounded_numbers}
+use Rattle.ladder.proofs.Solutions.{in_reflection, in_reflected, finite_in, mirror_bounded}
 use Rattle.ladder.proofs.Ordinals.{finite_twice}
 
 module _ (f e : ℕ) (some : 1 ≤ f) (a b : ℕ) (I : Interval) (fa : Finite f e a) (fb : Finite f e b) (n : Bounded f e I) where
@@ -27,7 +27,7 @@ module _ (f e : ℕ) (some : 1 ≤ f) (a b : ℕ) (I : Interval) (fa : Finite f 
       let m : mirrored f e (mirrored f e a) ≡ a = omega arith in
       let t = finite_twice f e y (finite_in f e (reflection f e I) (mirror_bounded f e I n) y r.inside) in
       let s = subst (λ (z : ℕ). sum f e (mirrored f e y) z ≡ mirrored f e (sum f e y (mirrored f e a))) m (sum_mirror f e some y (mirrored f e a) t (omega arith)) in
-      record { inside = in_reflected f e I (bounded_numbers n) y r.inside; no_more = omega (arith, s, r.enough, finite_twice f e b fb) }
+      record { inside = in_reflected f e I n y r.inside; no_more = omega (arith, s, r.enough, finite_twice f e b fb) }
 
   pub greatest_never : Never Mirrored → Never (Stays f e a b I)
   greatest_never = mirror_never (2 * sign f e) (Stays f e a b I) Mirrored to

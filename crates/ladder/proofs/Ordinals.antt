@@ -1,13 +1,13 @@
--- Patterns and ordinals: a number's pattern has a number's ordinal and a finite one a finite ordinal, one leads back to the other, and the order of ordinals is the order of values, so that a value determines its ordinal. Assumes nothing.
+-- Patterns and ordinals: a finite pattern's ordinal is finite, one leads back to the other, and the order of ordinals is the order of values, so that a value determines its ordinal. Assumes nothing.
 use mathlib.Core.Path.{◌≡◌, sym, ap, ◌∙◌}
 use mathlib.Core.Logic.{◌↔◌, inl, inr}
 use mathlib.Core.Bool.{Bool, true, false, cond}
 use Prim.Native.Nat.{ℕ, ◌+◌, ◌-◌, ◌*◌, ◌^◌, ◌≤◌, ◌<◌}
 use native.Mathlib.Omega.{arith}
 use lib.Pow.{pow_pos, pow-add}
-use borrow.Author.Tests.{lt-ltb, le-ltb, le-leb, eq-eqb, ne_eqb, ltb-true, leb-true}
+use borrow.Author.Tests.{lt-ltb, le-ltb, eq-eqb, ne_eqb, ltb-true}
 use Rattle.ladder.specs.Magnitude.{magnitude}
-use Rattle.ladder.specs.Ordinal.{sign, infinity, is_finite, is_number, ordinal, pattern, canonical, negated, mirrored, Finite, Number, above, below}
+use Rattle.ladder.specs.Ordinal.{sign, infinity, is_finite, ordinal, pattern, canonical, negated, mirrored, Finite, above, below}
 use Rattle.ladder.proofs.Cases.{le_or_lt, trichotomy}
 use Rattle.ladder.proofs.Magnitude.{magnitude_lt, magnitude_le, magnitude_zero}
 use Rattle.ladder.proofs.Rounding.{even_pow}
@@ -38,37 +38,6 @@ module _ (f e : ℕ) where
   pub finite_high : (p : ℕ) → is_finite f e p ≡ true → s ≤ p → p - s < infinity f e
   finite_high p h l = ltb-true _ _ (simp (le-ltb _ _ l) at h)
 
-  pub number_low : (p : ℕ) → is_number f e p ≡ true → p < s → p ≤ infinity f e
-  number_low p h l = leb-true _ _ (simp (lt-ltb _ _ l) at h)
-
-  pub number_high : (p : ℕ) → is_number f e p ≡ true → s ≤ p → p - s ≤ infinity f e
-  number_high p h l = leb-true _ _ (simp (le-ltb _ _ l) at h)
-
-  pub low_number : (p : ℕ) → p < s → p ≤ infinity f e → is_number f e p ≡ true
-  low_number p l h = simp (lt-ltb _ _ l, le-leb _ _ h)
-
-  pub high_number : (p : ℕ) → s ≤ p → p - s ≤ infinity f e → is_number f e p ≡ true
-  high_number p l h = simp (le-ltb _ _ l, le-leb _ _ h)
-
-  pub low_finite : (p : ℕ) → p < s → p < infinity f e → is_finite f e p ≡ true
-  low_finite p l h = simp (lt-ltb _ _ l, lt-ltb _ _ h)
-
-  pub high_finite : (p : ℕ) → s ≤ p → p - s < infinity f e → is_finite f e p ≡ true
-  high_finite p l h = simp (le-ltb _ _ l, lt-ltb _ _ h)
-
-  -- a finite pattern is a number's
-  pub finite_number : (p : ℕ) → is_finite f e p ≡ true → is_number f e p ≡ true
-  finite_number p h = elim (le_or_lt s p) [
-    | inl l ↦ high_number p l (omega (arith, finite_high p h l))
-    | inr l ↦ low_number p l (omega (arith, finite_low p h l))
-  ]
-
-  pub number_fits : (p : ℕ) → is_number f e p ≡ true → p < 2 * sign f e
-  number_fits p h = elim (le_or_lt s p) [
-    | inl l ↦ omega (arith, number_high p h l, infinity_lt_sign f e)
-    | inr l ↦ omega arith
-  ]
-
   pub ordinal_low : (p : ℕ) → p < s → ordinal f e p ≡ s + p
   unfolding ordinal
   ordinal_low p l = simp (lt-ltb _ _ l)
@@ -85,35 +54,22 @@ module _ (f e : ℕ) where
   unfolding pattern
   pattern_high r l = simp (le-ltb _ _ l)
 
-  pub ordinal_number : (p : ℕ) → is_number f e p ≡ true → Number f e (ordinal f e p)
-  ordinal_number p h = elim (le_or_lt s p) [
-    | inl l ↦ let q = number_high p h l in rw (ordinal_high p l) (record { low = omega (arith, infinity_lt_sign f e); high = omega (arith, infinity_lt_sign f e) })
-    | inr l ↦ let q = number_low p h l in rw (ordinal_low p l) (record { low = omega arith; high = omega arith })
-  ]
-
   pub ordinal_finite : (p : ℕ) → is_finite f e p ≡ true → Finite f e (ordinal f e p)
   ordinal_finite p h = elim (le_or_lt s p) [
     | inl l ↦ let q = finite_high p h l in rw (ordinal_high p l) (record { low = omega (arith, infinity_lt_sign f e); high = omega (arith, infinity_lt_sign f e) })
     | inr l ↦ let q = finite_low p h l in rw (ordinal_low p l) (record { low = omega (arith, infinity_lt_sign f e); high = omega arith })
   ]
 
-  -- a number is finite where its ordinal is
-  pub number_finite : (p : ℕ) → is_number f e p ≡ true → Finite f e (ordinal f e p) → is_finite f e p ≡ true
-  number_finite p h n = elim (le_or_lt s p) [
-    | inl l ↦ high_finite p l (omega (arith, n.low, ordinal_high p l, number_high p h l, infinity_lt_sign f e))
-    | inr l ↦ low_finite p l (omega (arith, n.high, ordinal_low p l))
-  ]
-
-  pub pattern_number : (r : ℕ) → Number f e r → is_number f e (pattern f e r) ≡ true
-  pattern_number r h = elim (le_or_lt s r) [
-    | inl l ↦ rw (pattern_high r l) (low_number (r - s) (omega (arith, infinity_lt_sign f e)) (omega arith))
-    | inr l ↦ rw (pattern_low r l) (high_number (s + (s - r)) (omega arith) (omega arith))
-  ]
-
   pub pattern_finite : (r : ℕ) → Finite f e r → is_finite f e (pattern f e r) ≡ true
   pattern_finite r h = elim (le_or_lt s r) [
-    | inl l ↦ rw (pattern_high r l) (low_finite (r - s) (omega (arith, infinity_lt_sign f e)) (omega arith))
-    | inr l ↦ rw (pattern_low r l) (high_finite (s + (s - r)) (omega arith) (omega arith))
+    | inl l ↦
+        let a : r - s < s = omega (arith, infinity_lt_sign f e) in
+        let b : r - s < infinity f e = omega arith in
+        rw (pattern_high r l) (simp (lt-ltb _ _ a, lt-ltb _ _ b))
+    | inr l ↦
+        let a : s ≤ s + (s - r) = omega arith in
+        let b : s + (s - r) - s < infinity f e = omega arith in
+        rw (pattern_low r l) (simp (le-ltb _ _ a, lt-ltb _ _ b))
   ]
 
   -- the canonical pattern
@@ -126,28 +82,28 @@ module _ (f e : ℕ) where
   canonical_same p h = simp (ne_eqb _ _ h)
 
   -- pattern to ordinal to pattern
-  pub pattern_ordinal : (p : ℕ) → is_number f e p ≡ true → pattern f e (ordinal f e p) ≡ canonical f e p
+  pub pattern_ordinal : (p : ℕ) → is_finite f e p ≡ true → pattern f e (ordinal f e p) ≡ canonical f e p
   pattern_ordinal p h = elim (trichotomy p s) [
     | inl l ↦
         ap (pattern f e) (ordinal_low p l) ∙ pattern_high (s + p) (omega arith) ∙ omega arith ∙ sym (canonical_same p (λ e. omega arith))
     | inr r ↦ elim r [
       | inl z ↦ ap (pattern f e) (ordinal_high p (omega arith)) ∙ pattern_high (s - (p - s)) (omega arith) ∙ omega arith ∙ sym (canonical_zero p z)
       | inr l ↦
-          let q = number_high p h (omega arith) in
+          let q = finite_high p h (omega arith) in
           ap (pattern f e) (ordinal_high p (omega arith)) ∙ pattern_low (s - (p - s)) (omega (arith, infinity_lt_sign f e))
           ∙ omega (arith, infinity_lt_sign f e) ∙ sym (canonical_same p (λ e. omega arith))
     ]
   ]
 
   -- ordinal to pattern to ordinal
-  pub ordinal_pattern : (r : ℕ) → Number f e r → ordinal f e (pattern f e r) ≡ r
+  pub ordinal_pattern : (r : ℕ) → Finite f e r → ordinal f e (pattern f e r) ≡ r
   ordinal_pattern r h = elim (le_or_lt s r) [
     | inl l ↦ ap (ordinal f e) (pattern_high r l) ∙ ordinal_low (r - s) (omega (arith, infinity_lt_sign f e)) ∙ omega arith
     | inr l ↦ ap (ordinal f e) (pattern_low r l) ∙ ordinal_high (s + (s - r)) (omega arith) ∙ omega arith
   ]
 
   -- the other sign, by patterns and by ordinals
-  pub negated_is : (p : ℕ) → is_number f e p ≡ true → negated f e p ≡ pattern f e (mirrored f e (ordinal f e p))
+  pub negated_is : (p : ℕ) → is_finite f e p ≡ true → negated f e p ≡ pattern f e (mirrored f e (ordinal f e p))
   unfolding negated
   negated_is p h = elim (trichotomy p 0) [
     | inl l ↦ absurd (omega arith)
@@ -155,7 +111,7 @@ module _ (f e : ℕ) where
       | inl z ↦ rw (eq-eqb p 0 z, ordinal_low p (omega (arith, infinity_lt_sign f e)), pattern_high (2 * s - (s + p)) (omega arith)) (omega arith)
       | inr l ↦ elim (le_or_lt s p) [
         | inl k ↦
-            let q = number_high p h k in
+            let q = finite_high p h k in
             rw (ne_eqb p 0 (λ z. omega arith), le-ltb p s k, ordinal_high p k, pattern_high (2 * s - (s - (p - s))) (omega (arith, infinity_lt_sign f e)))
             (omega (arith, infinity_lt_sign f e))
         | inr k ↦
@@ -209,13 +165,3 @@ mirror_finite f e r n = let c = infinity_lt_sign f e in record { low = omega ari
 
 pub finite_twice : (f e r : ℕ) → Finite f e r → r ≤ 2 * sign f e
 finite_twice f e r n = omega (arith, infinity_lt_sign f e)
-
--- ---- the same of numbers, infinities among them
-pub finite_is_number : {f e r : ℕ} → Finite f e r → Number f e r
-finite_is_number n = record { low = omega arith; high = omega arith }
-
-pub mirror_number : (f e r : ℕ) → Number f e r → Number f e (mirrored f e r)
-mirror_number f e r n = let c = infinity_lt_sign f e in record { low = omega arith; high = omega arith }
-
-pub number_twice : (f e r : ℕ) → Number f e r → r ≤ 2 * sign f e
-number_twice f e r n = omega (arith, infinity_lt_sign f e)

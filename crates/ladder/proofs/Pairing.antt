@@ -1,16 +1,13 @@
 -- The narrowing of two intervals by search is the one that Pairing describes, and the only one. And what a caller needs of it, so that none opens its definition. Assumes nothing.
 use mathlib.Core.Path.{◌≡◌, sym, ap, ◌∙◌, subst}
-use mathlib.Core.Logic.{◌⊎◌, inl, inr}
 use mathlib.Core.Bool.{Bool}
 use Prim.Native.Nat.{ℕ}
 use lib.Dec.{T}
-use Rattle.ladder.specs.Solution.{Interval, In, Bounded, Numbers}
+use Rattle.ladder.specs.Solution.{Interval, In, Bounded}
 use Rattle.ladder.specs.Narrowing.{Extent, empty, over}
 use Rattle.ladder.specs.Pairing.{first_extent, second_extent, Pairing, none, ends, couple, pairing, Pair, HasFirst, HasSecond, PairHull, IsPairing}
-use Rattle.ladder.specs.Parts.{joined_pairs}
 use Rattle.ladder.proofs.Extents.{some_in, any_in_lem, IsExtent, extent_in_lem, extent_unique}
-use Rattle.ladder.proofs.Hull.{Within, spans_within, within_bounded, within_numbers, same_spans}
-use Rattle.ladder.proofs.Relations.{spans_left, spans_right, spans_hull}
+use Rattle.ladder.proofs.Hull.{Within, spans_within, within_bounded, same_spans}
 
 module _ (t : ℕ → ℕ → Bool) (P Q : Interval) where
   first_extent_is : IsExtent (HasFirst t P Q) (first_extent t P Q)
@@ -63,85 +60,21 @@ module _ (t : ℕ → ℕ → Bool) (P Q : Interval) where
       pub pair_bounded : {f e : ℕ} → Bounded f e P → Bounded f e Q → Bounded f e P' × Bounded f e Q'
       pair_bounded p q = (within_bounded p pair_within.0, within_bounded q pair_within.1)
 
-      -- and numbers numbers
-      pub pair_numbers : {f e : ℕ} → Numbers f e P → Numbers f e Q → Numbers f e P' × Numbers f e Q'
-      pair_numbers p q = (within_numbers p pair_within.0, within_numbers q pair_within.1)
-
--- ---- every pair of one test inside P, Q is one of another inside P', Q'
-abbrev pub CarriedPairs : (ℕ → ℕ → Bool) → Interval → Interval → (ℕ → ℕ → Bool) → Interval → Interval → Type 0
-CarriedPairs t P Q t' P' Q' = (p q : ℕ) → Pair t P Q p q → Pair t' P' Q' p q
-
-module _ {t t' : ℕ → ℕ → Bool} (P Q P' Q' : Interval) (k : CarriedPairs t P Q t' P' Q') where
-  carried_first : (y : ℕ) → HasFirst t P Q y → HasFirst t' P' Q' y
-  carried_first y w = record { q = w.q; pair = k y w.q w.pair }
-
-  carried_second : (y : ℕ) → HasSecond t P Q y → HasSecond t' P' Q' y
-  carried_second y w = record { p = w.p; pair = k w.p y w.pair }
-
--- the same pairs are narrowed alike
-module _ {t t' : ℕ → ℕ → Bool} (P Q P' Q' : Interval) (k : CarriedPairs t P Q t' P' Q') (j : CarriedPairs t' P' Q' t P Q) where
-  pub same_pairing : pairing t P Q ≡ pairing t' P' Q'
-  same_pairing = go (pairing t P Q) (pairing_is t P Q)
-    where
-      go : (n : Pairing) → IsPairing t P Q n → n ≡ pairing t' P' Q'
-      go none h = pairing_unique t' P' Q' none (λ p q w. h p q (j p q w))
-      go (ends I J) h =
-          pairing_unique t' P' Q' (ends I J)
-          (record {
-            firsts = same_spans (carried_first P Q P' Q' k) (carried_first P' Q' P Q j) I h.firsts;
-            seconds = same_spans (carried_second P Q P' Q' k) (carried_second P' Q' P Q j) J h.seconds;
-          })
-
--- tests that agree inside the intervals
+-- tests that agree inside the intervals narrow them alike
 pub pairing_agree : (t t' : ℕ → ℕ → Bool) (P Q : Interval) → ((p q : ℕ) → In P p → In Q q → t p q ≡ t' p q) → pairing t P Q ≡ pairing t' P Q
-pairing_agree t t' P Q e =
-    same_pairing P Q P Q
-    (λ p q w. record { p_in = w.p_in; q_in = w.q_in; passes = subst T (e p q w.p_in w.q_in) w.passes })
-    (λ p q w. record { p_in = w.p_in; q_in = w.q_in; passes = subst T (sym (e p q w.p_in w.q_in)) w.passes })
+pairing_agree t t' P Q e = go (pairing t P Q) (pairing_is t P Q)
+  where
+    to : (p q : ℕ) → Pair t P Q p q → Pair t' P Q p q
+    to p q w = record { p_in = w.p_in; q_in = w.q_in; passes = subst T (e p q w.p_in w.q_in) w.passes }
 
--- ---- the first interval in two pieces: the join of their narrowings
-module _ (t : ℕ → ℕ → Bool) (P P₁ P₂ Q : Interval) (to₁ : (p : ℕ) → In P₁ p → In P p) (to₂ : (p : ℕ) → In P₂ p → In P p) (split : (p : ℕ) → In P p → In P₁ p ⊎ In P₂ p) where
-  piece : (P' : Interval) → ((p : ℕ) → In P' p → In P p) → CarriedPairs t P' Q t P Q
-  piece P' to p q w = record { p_in = to p w.p_in; q_in = w.q_in; passes = w.passes }
+    from : (p q : ℕ) → Pair t' P Q p q → Pair t P Q p q
+    from p q w = record { p_in = w.p_in; q_in = w.q_in; passes = subst T (sym (e p q w.p_in w.q_in)) w.passes }
 
-  split_pair : (p q : ℕ) → Pair t P Q p q → Pair t P₁ Q p q ⊎ Pair t P₂ Q p q
-  split_pair p q w = elim (split p w.p_in) [
-    | inl h ↦ inl (record { p_in = h; q_in = w.q_in; passes = w.passes })
-    | inr h ↦ inr (record { p_in = h; q_in = w.q_in; passes = w.passes })
-  ]
-
-  split_first : (y : ℕ) → HasFirst t P Q y → HasFirst t P₁ Q y ⊎ HasFirst t P₂ Q y
-  split_first y w = elim (split_pair y w.q w.pair) [ inl h ↦ inl (record { q = w.q; pair = h }) | inr h ↦ inr (record { q = w.q; pair = h }) ]
-
-  split_second : (y : ℕ) → HasSecond t P Q y → HasSecond t P₁ Q y ⊎ HasSecond t P₂ Q y
-  split_second y w = elim (split_pair w.p y w.pair) [ inl h ↦ inl (record { p = w.p; pair = h }) | inr h ↦ inr (record { p = w.p; pair = h }) ]
-
-  pub pairing_split : (n m : Pairing) → n ≡ pairing t P₁ Q → m ≡ pairing t P₂ Q → joined_pairs n m ≡ pairing t P Q
-  pairing_split n m e g = pairing_unique t P Q (joined_pairs n m) (go n m (subst (IsPairing t P₁ Q) (sym e) (pairing_is t P₁ Q)) (subst (IsPairing t P₂ Q) (sym g) (pairing_is t P₂ Q)))
-    where
-      f₁ : (y : ℕ) → HasFirst t P₁ Q y → HasFirst t P Q y
-      f₁ = carried_first P₁ Q P Q (piece P₁ to₁)
-
-      f₂ : (y : ℕ) → HasFirst t P₂ Q y → HasFirst t P Q y
-      f₂ = carried_first P₂ Q P Q (piece P₂ to₂)
-
-      s₁ : (y : ℕ) → HasSecond t P₁ Q y → HasSecond t P Q y
-      s₁ = carried_second P₁ Q P Q (piece P₁ to₁)
-
-      s₂ : (y : ℕ) → HasSecond t P₂ Q y → HasSecond t P Q y
-      s₂ = carried_second P₂ Q P Q (piece P₂ to₂)
-
-      go : (n m : Pairing) → IsPairing t P₁ Q n → IsPairing t P₂ Q m → IsPairing t P Q (joined_pairs n m)
-      go none none h g = λ p q w. elim (split_pair p q w) [ inl z ↦ h p q z | inr z ↦ g p q z ]
-      go none (ends I J) h g = record {
-        firsts = spans_right _ _ _ f₁ f₂ split_first I (λ y w. h y w.q w.pair) g.firsts;
-        seconds = spans_right _ _ _ s₁ s₂ split_second J (λ y w. h w.p y w.pair) g.seconds;
-      }
-      go (ends I J) none h g = record {
-        firsts = spans_left _ _ _ f₁ f₂ split_first I (λ y w. g y w.q w.pair) h.firsts;
-        seconds = spans_left _ _ _ s₁ s₂ split_second J (λ y w. g w.p y w.pair) h.seconds;
-      }
-      go (ends I J) (ends K L) h g = record {
-        firsts = spans_hull _ _ _ f₁ f₂ split_first I K h.firsts g.firsts;
-        seconds = spans_hull _ _ _ s₁ s₂ split_second J L h.seconds g.seconds;
-      }
+    go : (n : Pairing) → IsPairing t P Q n → n ≡ pairing t' P Q
+    go none h = pairing_unique t' P Q none (λ p q w. h p q (from p q w))
+    go (ends P' Q') h =
+        pairing_unique t' P Q (ends P' Q')
+        (record {
+          firsts = same_spans (λ p w. record { q = w.q; pair = to p w.q w.pair }) (λ p w. record { q = w.q; pair = from p w.q w.pair }) P' h.firsts;
+          seconds = same_spans (λ q w. record { p = w.p; pair = to w.p q w.pair }) (λ q w. record { p = w.p; pair = from w.p q w.pair }) Q' h.seconds;
+        })

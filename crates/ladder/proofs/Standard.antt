@@ -1,7 +1,7 @@
--- The sum is the one of the kit's account of IEEE 754, lib.Ieee's `add`, which `f32` and `f64` have: for two finite patterns the ordinal of its bits is the sum of their ordinals, overflow included. Their sum is no NaN.
+-- The sum is the one of the kit's account of IEEE 754, lib.Ieee's `add`, which `f32` and `f64` have: for two finite patterns the ordinal of its bits is the sum of their ordinals, overflow included. Neither they nor their sum are NaN's.
 -- Assumes nothing.
 use mathlib.Core.Path.{◌≡◌, refl, sym, ap, ap₂, ◌∙◌, subst}
-use mathlib.Core.Logic.{inl, inr}
+use mathlib.Core.Logic.{◌⊎◌, inl, inr}
 use mathlib.Core.Bool.{Bool, true, false, not, cond, ◌&&◌, beq}
 use Prim.Native.Nat.{ℕ, zero, suc, ◌+◌, ◌-◌, ◌*◌, ◌/◌, ◌%◌, ◌^◌, min, ◌≤◌, ◌<◌}
 use native.Mathlib.Nat.{lt_of_mul-lt-mul_right, mul-lt-mul_of_pos_right, mul-pos, add-mod_left, mod-eq_of_lt, mul-add-mod_self_left, div-lt_iff_lt-mul}
@@ -10,9 +10,9 @@ use lib.Dec.{T, leb, ltb, eqb, lt→ltb, le→leb, not_T, eqb→eq, lit≤}
 use lib.Arith.{le→nltb, lt→nleb}
 use lib.Pow.{pow_pos}
 use lib.Ieee as I
-use lib.Ieee.{Float, nan, inf, fin, Format, binary32, binary64, prec, low, up, down, odd, hid, ones, top, of_fields, of_bits, to_bits, is_nan, add}
+use lib.Ieee.{Float, nan, inf, fin, Format, binary32, binary64, prec, low, up, down, odd, hid, ones, top, of_fields, of_bits, to_bits, is_nan, nan_bits, add}
 use lib.Ieee.Fits.{two, down_pos}
-use lib.Ieee.Bits.{cond_no, is_true, is_false}
+use lib.Ieee.Bits.{cond_no, is_true, is_false, nan_bits_is, to_bits-of_bits}
 use lib.Ieee.Exact.{HasValue, odd_sign}
 use lib.Ieee.Scale.{round_same}
 use Rattle.ladder.specs.Magnitude.{scaled, magnitude}
@@ -210,6 +210,19 @@ module _ (F : Format) where
       ∙ sym (ap₂ (rounded f e) (ap₂ ◌+◌ i.above_is j.above_is) (ap₂ ◌+◌ i.below_is j.below_is))
 
   -- ---- NaN's
+  pub pattern_number : (p : ℕ) → is_finite f e p ≡ true → T (not (nan_bits F p))
+  pattern_number p h =
+      let i = read_pattern p h in
+      rw (nan_bits_is F p) (subst (λ (n : ℕ). T (not (is_nan (of_bits F n)))) (sym i.is) (valued _ _ _ _ (value_of F i.b i.m i.low)))
+
+  -- and the number that is read from it has this pattern
+  pub pattern_read : (p : ℕ) → is_finite f e p ≡ true → to_bits F (of_bits F p) ≡ p
+  pattern_read p h = to_bits-of_bits F p (fits (le_or_lt s p)) (subst (λ (b : Bool). T (not b)) (nan_bits_is F p) (pattern_number p h))
+    where
+      fits : (s ≤ p) ⊎ (p < s) → p < 2 * top F
+      fits (inl l) = omega (arith, sign_is F, infinity_lt_sign f e, finite_high f e p h l)
+      fits (inr l) = omega (arith, sign_is F)
+
   -- the ordinal of the pattern that lib.Ieee writes for a NaN lies beyond infinity's
   below_nan : (z : Float) → ordinal f e (to_bits F z) ≤ s + cap → T (not (is_nan z))
   unfolding is_nan to_bits

@@ -14,8 +14,7 @@ use Rattle.ladder.proofs.Cases.{le_or_lt}
 use Rattle.ladder.proofs.Ordinals.{infinity_lt_sign, finite_twice}
 use Rattle.ladder.proofs.Sum.{sum_comm, sum_mono, sum_mirror}
 use Rattle.ladder.proofs.Solutions.{swap, Kept}
-use Rattle.ladder.proofs.Narrowing.{adds_decides}
-use Rattle.ladder.proofs.Relations.{same_narrowing}
+use Rattle.ladder.proofs.Hull.{same_narrowing}
 use Rattle.ladder.proofs.Corners.{corners_span}
 use Rattle.ladder.proofs.Assembly.{never_x, assembled}
 
@@ -90,7 +89,7 @@ module _ (f e : ℕ) (some : 1 ≤ f) where
     trimmed_kept : Kept f e X A B X' A' B
     trimmed_kept y w b s =
         let i = side X A B x a p y w b s in
-        let j = side A X B c z q w y b (swap f e s) in
+        let j = side A X B c z q w y b (swap s) in
         record { x_in = record { low = i.0; high = j.1 }; a_in = record { low = j.0; high = i.1 }; b_in = s.b_in; is = s.is }
 
     -- and none is added, so that what is left is narrowed alike
@@ -103,7 +102,7 @@ module _ (f e : ℕ) (some : 1 ≤ f) where
     }
 
     pub trimmed_same : narrowing f e X' A' B ≡ narrowing f e X A B
-    trimmed_same = same_narrowing X' A' B X A B trimmed_given trimmed_kept (adds_decides f e) (adds_decides f e)
+    trimmed_same = same_narrowing f e X A B X' A' B trimmed_kept trimmed_given
 
     -- the ends have crossed
     pub trimmed_never_x : z < x → Never (HasX f e X A B)

@@ -10,7 +10,7 @@ use Rattle.ladder.specs.Narrowing.{HasX}
 use Rattle.ladder.specs.Search.{Never, Least, Greatest, Attains, Stays, Frontier, Corner, Skips, Fine}
 use Rattle.ladder.proofs.Cases.{le_or_lt}
 use Rattle.ladder.proofs.Sum.{sum_comm}
-use Rattle.ladder.proofs.Frontier.{frontier_start, frontier_solved, raise_next, raise_end, lower_next, lower_end_lem}
+use Rattle.ladder.proofs.Frontier.{frontier_start, frontier_solved, raise_next, raise_end, lower_next, lower_end}
 use Rattle.ladder.proofs.Neighbours.{skips_before, skips_after}
 use Rattle.ladder.proofs.Skips.{once_up, once_down}
 
@@ -31,11 +31,11 @@ module _ (f e : ℕ) (some : 1 ≤ f) (X A B : Interval) where
       climb_once g = frontier_solved f e some X A B x A.high climbed.1 (record { low = l.holds.enough; high = g })
 
       pub climb_end : Never (Stays f e x B.high A) → Never (HasX f e X A B)
-      climb_end = lower_end_lem f e some X A B x A.high climbed.1
+      climb_end = lower_end f e some X A B x A.high climbed.1
 
     -- ---- down
     pub descend_none : Never (Stays f e X.low B.high A) → Never (HasX f e X A B)
-    descend_none = lower_end_lem f e some X A B X.low A.high start
+    descend_none = lower_end f e some X A B X.low A.high start
 
     module _ (h : B.high < sum f e X.low A.high) (a : ℕ) (m : Greatest (Stays f e X.low B.high A) a) where
       descended : (a < A.high) × Frontier f e X A B X.low a

@@ -1,6 +1,6 @@
--- Half a float: the numbers whose double is at least b, and those whose double is at most b. For the functions that narrow x ⊕ x = b; what that narrowing is, Pairing says. Assumes nothing.
+-- Half a float: the values whose double is at least b, and those whose double is at most b. For the functions that narrow x ⊕ x = b; what that narrowing is, Pairing says. Assumes nothing.
 use Rattle.std.specs.Prelude.{◌↔◌, cond, ℕ, ◌+◌, ◌-◌, ◌*◌, ◌/◌, ◌^◌, ◌≤◌, ltb}
-use Rattle.ladder.specs.Ordinal.{Number}
+use Rattle.ladder.specs.Ordinal.{Finite}
 use Rattle.ladder.specs.Sum.{sum}
 
 -- ---- patterns without a sign
@@ -13,12 +13,12 @@ abbrev pub halved : ℕ → ℕ → ℕ → ℕ
 halved f up n = cond (ltb n (2 * 2 ^ f)) ((n + up) / 2) (n - 2 ^ f)
 
 -- ---- ordinals
--- the numbers whose double is at least b are those from x on. By `sum` an infinity is its own double
+-- the values whose double is at least b are those from x on
 pub record LeastHalf (f e b x : ℕ) : Type 0 where
-  pub number : Number f e x
-  pub from : (y : ℕ) → Number f e y → (b ≤ sum f e y y) ↔ (x ≤ y)
+  pub finite : Finite f e x
+  pub from : (y : ℕ) → (b ≤ sum f e y y) ↔ (x ≤ y)
 
--- the numbers whose double is at most b are those up to x
+-- the values whose double is at most b are those up to x
 pub record GreatestHalf (f e b x : ℕ) : Type 0 where
-  pub number : Number f e x
-  pub to : (y : ℕ) → Number f e y → (sum f e y y ≤ b) ↔ (y ≤ x)
+  pub finite : Finite f e x
+  pub to : (y : ℕ) → (sum f e y y ≤ b) ↔ (y ≤ x)

@@ -7,9 +7,7 @@ pub mod Nearest
 pub mod Values
 pub mod Solution
 pub mod Narrowing
-pub mod Extended
 pub mod Search
 pub mod Pairing
-pub mod Parts
 pub mod Halves
 pub mod Absorption

@@ -2,7 +2,7 @@
 -- That the two agree is a law of proofs/. Assumes nothing.
 use Rattle.std.specs.Prelude.{Bool, true, false, ◌||◌, ℕ, zero, suc, ◌-◌, eqb}
 use Rattle.ladder.specs.Sum.{sum}
-use Rattle.ladder.specs.Solution.{Interval, In, SolutionBy, Adds}
+use Rattle.ladder.specs.Solution.{Interval, In, Solution}
 
 -- ---- a search through an interval
 -- whether one of the n numbers from y on passes the test
@@ -35,17 +35,17 @@ abbrev pub extent_in : Interval → (ℕ → Bool) → Extent
 extent_in I t = extent_from t I.low (suc I.high - I.low)
 
 -- ---- the values that stand in a triple
--- of the x inside X, those that pass the test with an a and a b
-unfoldable pub x_extent_by : (ℕ → ℕ → ℕ → Bool) → Interval → Interval → Interval → Extent
-x_extent_by t X A B = extent_in X (λ x. any_in A (λ a. any_in B (λ b. t x a b)))
+-- of the x inside X, those in a triple
+unfoldable pub x_extent : ℕ → ℕ → Interval → Interval → Interval → Extent
+x_extent f e X A B = extent_in X (λ x. any_in A (λ a. any_in B (λ b. eqb (sum f e x a) b)))
 
 -- of the a inside A
-unfoldable pub a_extent_by : (ℕ → ℕ → ℕ → Bool) → Interval → Interval → Interval → Extent
-a_extent_by t X A B = extent_in A (λ a. any_in X (λ x. any_in B (λ b. t x a b)))
+unfoldable pub a_extent : ℕ → ℕ → Interval → Interval → Interval → Extent
+a_extent f e X A B = extent_in A (λ a. any_in X (λ x. any_in B (λ b. eqb (sum f e x a) b)))
 
 -- of the b inside B
-unfoldable pub b_extent_by : (ℕ → ℕ → ℕ → Bool) → Interval → Interval → Interval → Extent
-b_extent_by t X A B = extent_in B (λ b. any_in X (λ x. any_in A (λ a. t x a b)))
+unfoldable pub b_extent : ℕ → ℕ → Interval → Interval → Interval → Extent
+b_extent f e X A B = extent_in B (λ b. any_in X (λ x. any_in A (λ a. eqb (sum f e x a) b)))
 
 -- ---- the narrowing: that there is no triple, or the three intervals cut down
 pub data Narrowing : Type 0 where
@@ -59,44 +59,28 @@ gather (over x) empty t = none
 gather (over x) (over a) empty = none
 gather (over x) (over a) (over b) = ends x a b
 
--- the narrowing of X, A and B by a test
-unfoldable pub narrowing_by : (ℕ → ℕ → ℕ → Bool) → Interval → Interval → Interval → Narrowing
-narrowing_by t X A B = gather (x_extent_by t X A B) (a_extent_by t X A B) (b_extent_by t X A B)
-
--- 01's narrowing of a sum
-abbrev pub narrowing : ℕ → ℕ → Interval → Interval → Interval → Narrowing
-narrowing f e X A B = narrowing_by (λ x a b. eqb (sum f e x a) b) X A B
+-- 01's narrowing of X, A and B
+unfoldable pub narrowing : ℕ → ℕ → Interval → Interval → Interval → Narrowing
+narrowing f e X A B = gather (x_extent f e X A B) (a_extent f e X A B) (b_extent f e X A B)
 
 -- ---- the same by what holds of it
 -- x stands in a triple
-pub record HasXBy (R : ℕ → ℕ → ℕ → Type 0) (X A B : Interval) (x : ℕ) : Type 0 where
+pub record HasX (f e : ℕ) (X A B : Interval) (x : ℕ) : Type 0 where
   pub a : ℕ
   pub b : ℕ
-  pub solution : SolutionBy R X A B x a b
+  pub solution : Solution f e X A B x a b
 
 -- a stands in a triple
-pub record HasABy (R : ℕ → ℕ → ℕ → Type 0) (X A B : Interval) (a : ℕ) : Type 0 where
+pub record HasA (f e : ℕ) (X A B : Interval) (a : ℕ) : Type 0 where
   pub x : ℕ
   pub b : ℕ
-  pub solution : SolutionBy R X A B x a b
+  pub solution : Solution f e X A B x a b
 
 -- b stands in a triple
-pub record HasBBy (R : ℕ → ℕ → ℕ → Type 0) (X A B : Interval) (b : ℕ) : Type 0 where
+pub record HasB (f e : ℕ) (X A B : Interval) (b : ℕ) : Type 0 where
   pub x : ℕ
   pub a : ℕ
-  pub solution : SolutionBy R X A B x a b
-
--- of 01's triples: x
-abbrev pub HasX : ℕ → ℕ → Interval → Interval → Interval → ℕ → Type 0
-HasX f e X A B = HasXBy (Adds f e) X A B
-
--- a
-abbrev pub HasA : ℕ → ℕ → Interval → Interval → Interval → ℕ → Type 0
-HasA f e X A B = HasABy (Adds f e) X A B
-
--- b
-abbrev pub HasB : ℕ → ℕ → Interval → Interval → Interval → ℕ → Type 0
-HasB f e X A B = HasBBy (Adds f e) X A B
+  pub solution : Solution f e X A B x a b
 
 -- I runs from the least to the greatest number of which P holds
 pub record Spans (P : ℕ → Type 0) (I : Interval) : Type 0 where
@@ -105,20 +89,12 @@ pub record Spans (P : ℕ → Type 0) (I : Interval) : Type 0 where
   pub all : (y : ℕ) → P y → In I y
 
 -- each end stands in a triple, and every triple lies between the ends
-pub record HullBy (R : ℕ → ℕ → ℕ → Type 0) (X A B X' A' B' : Interval) : Type 0 where
-  pub xs : Spans (HasXBy R X A B) X'
-  pub «as» : Spans (HasABy R X A B) A'
-  pub bs : Spans (HasBBy R X A B) B'
-
--- of 01's triples
-abbrev pub Hull : ℕ → ℕ → Interval → Interval → Interval → Interval → Interval → Interval → Type 0
-Hull f e X A B X' A' B' = HullBy (Adds f e) X A B X' A' B'
+pub record Hull (f e : ℕ) (X A B X' A' B' : Interval) : Type 0 where
+  pub xs : Spans (HasX f e X A B) X'
+  pub «as» : Spans (HasA f e X A B) A'
+  pub bs : Spans (HasB f e X A B) B'
 
 -- what 01 says of a narrowing: none means that there is no triple
-abbrev pub IsNarrowingBy : (ℕ → ℕ → ℕ → Type 0) → Interval → Interval → Interval → Narrowing → Type 0
-IsNarrowingBy R X A B none = (x a b : ℕ) → SolutionBy R X A B x a b → ⊥
-IsNarrowingBy R X A B (ends X' A' B') = HullBy R X A B X' A' B'
-
--- of 01's triples
 abbrev pub IsNarrowing : ℕ → ℕ → Interval → Interval → Interval → Narrowing → Type 0
-IsNarrowing f e X A B n = IsNarrowingBy (Adds f e) X A B n
+IsNarrowing f e X A B none = (x a b : ℕ) → Solution f e X A B x a b → ⊥
+IsNarrowing f e X A B (ends X' A' B') = Hull f e X A B X' A' B'

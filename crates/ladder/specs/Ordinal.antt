@@ -1,6 +1,6 @@
 -- Patterns, ordinals and exact values of the format with f fraction bits and e exponent bits. An ordinal is 01's place shifted into the natural numbers:
 -- the sign's weight + m, or the sign's weight - m with the sign set, so that both zeros have one ordinal. Assumes nothing.
-use Rattle.std.specs.Prelude.{ℕ, ◌+◌, ◌-◌, ◌*◌, ◌^◌, ◌<◌, ◌≤◌, Bool, cond, leb, ltb, eqb}
+use Rattle.std.specs.Prelude.{ℕ, ◌+◌, ◌-◌, ◌*◌, ◌^◌, ◌<◌, Bool, cond, leb, ltb, eqb}
 use Rattle.ladder.specs.Magnitude.{magnitude}
 
 -- the sign bit's weight, which is also zero's ordinal
@@ -39,11 +39,6 @@ negated f e p = cond (eqb p 0) 0 (cond (ltb p (sign f e)) (p + sign f e) (p - si
 pub record Finite (f e r : ℕ) : Type 0 where
   pub low : sign f e < r + infinity f e
   pub high : r < sign f e + infinity f e
-
--- r is the ordinal of a number: of a finite float, or of an infinity, which lies just beyond them (02, R-5)
-pub record Number (f e r : ℕ) : Type 0 where
-  pub low : sign f e ≤ r + infinity f e
-  pub high : r ≤ sign f e + infinity f e
 
 -- the units of r above zero. The exact value of r is above f e r - below f e r units, of which one is zero
 abbrev pub above : ℕ → ℕ → ℕ → ℕ

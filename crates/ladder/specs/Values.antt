@@ -1,9 +1,8 @@
--- Demand 2's sentence on patterns: every number's pattern leads to its exact value, or to the end of the ladder that is an infinity's place, and back to its one written pattern. Assumes nothing.
+-- Demand 2's sentence on patterns: every finite pattern leads to its exact value and back to its one written pattern. Assumes nothing.
 use Rattle.std.specs.Prelude.{◌≡◌, true, cond, ℕ, ◌+◌, ◌-◌, ltb}
 use Rattle.ladder.specs.Magnitude.{magnitude}
-use Rattle.ladder.specs.Ordinal.{sign, is_finite, is_number, ordinal, pattern, canonical, above, below}
+use Rattle.ladder.specs.Ordinal.{sign, is_finite, ordinal, pattern, canonical, above, below}
 use Rattle.ladder.specs.Sum.{rounded}
-use Rattle.ladder.specs.Extended.{top, bottom}
 
 -- the units above zero of the pattern p: its m counts on the side of its sign
 unfoldable pub units_above : ℕ → ℕ → ℕ → ℕ
@@ -19,9 +18,3 @@ pub record Written (f e p : ℕ) : Type 0 where
   pub down : below f e (ordinal f e p) ≡ units_below f e p
   pub back : pattern f e (rounded f e (units_above f e p) (units_below f e p)) ≡ canonical f e p
   pub one : (q : ℕ) → is_finite f e q ≡ true → units_above f e q + units_below f e p ≡ units_above f e p + units_below f e q → canonical f e q ≡ canonical f e p
-
--- 02, R-5: the pattern p of an infinity leads to the end of the ladder on the side of its sign, and that end back to the canonical pattern, which no other number there has
-pub record EndWritten (f e p : ℕ) : Type 0 where
-  pub end : ordinal f e p ≡ cond (ltb p (sign f e)) (top f e) (bottom f e)
-  pub back : pattern f e (ordinal f e p) ≡ canonical f e p
-  pub one : (q : ℕ) → is_number f e q ≡ true → ordinal f e q ≡ ordinal f e p → canonical f e q ≡ canonical f e p

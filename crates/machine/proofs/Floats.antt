@@ -11,15 +11,16 @@ use borrow.Author.Tests.{lt-ltb, le-ltb, le-leb, leb-true, eq-eqb, ne_eqb}
 use Rattle.ladder.specs.Ordinal as L
 use Rattle.ladder.proofs.Cases.{le_or_lt}
 use Rattle.ladder.proofs.Ieee.{frac}
-use Rattle.ladder.proofs.Ordinals.{infinity_lt_sign, finite_low, finite_high, ordinal_low, ordinal_high, ordinal_finite, pattern_ordinal, finite_number, number_fits}
+use Rattle.ladder.proofs.Ordinals.{infinity_lt_sign, finite_low, finite_high, ordinal_low, ordinal_high, pattern_ordinal}
 use Rattle.ladder.proofs.Standard.{exponents, add_sum}
-use Rattle.ladder.proofs.Numbers.{number_bits, number_lt, number_le, number_add, number_sum}
+use Rattle.ladder.proofs.Numbers.{finite_number, number_fits, number_bits, number_lt, number_le, number_add, number_sum}
 use Rattle.arith.specs.declared.format.Format.{Format}
-use Rattle.arith.specs.Formats.{binary, Sound, is_finite, ordinal, pattern, is_number}
+use Rattle.arith.specs.Formats.{binary, Sound, is_finite, ordinal, pattern}
 use Rattle.arith.specs.declared.interval.Interval.{Interval}
-use Rattle.arith.specs.Intervals.{Bounded, range_of}
-use Rattle.arith.proofs.Formats.{both, sound}
-use Rattle.machine.specs.Floats.{machine, FitsWidth, Adds, Negates, unsigned, ends_finite}
+use Rattle.arith.specs.Intervals.{ends_finite}
+use Rattle.arith.proofs.Formats.{sound}
+use Rattle.arith.proofs.Intervals.{ends_both}
+use Rattle.machine.specs.Floats.{machine, is_number, FitsWidth, Adds, Negates, unsigned}
 
 -- ---- the formats
 -- the kit's format by its bits
@@ -56,19 +57,9 @@ pub chosen : (P : ℕ → Type 0) (t : Bool) (r x y : ℕ) → r ≡ cond t x y 
 chosen P true r x y e h k = subst P (sym e) h
 chosen P false r x y e h k = subst P (sym e) k
 
--- the ends of a finite interval are finite, and so are their ordinals
-pub finite_both : (F : Format) (I : Interval) → ends_finite F I ≡ true → (is_finite F I.low ≡ true) × (is_finite F I.high ≡ true)
-unfolding ends_finite
-finite_both F I h = both (is_finite F I.low) (is_finite F I.high) h
-
-pub finite_range : (F : Format) (I : Interval) → ends_finite F I ≡ true → Bounded F (range_of F I)
-finite_range F I h =
-    let b = finite_both F I h in
-    record { low = ordinal_finite F.fraction F.exponent I.low b.0; high = ordinal_finite F.fraction F.exponent I.high b.1 }
-
--- they are numbers
+-- the ends of a finite interval are numbers
 pub ends_numbers : (F : Format) (i : Interval) → ends_finite F i ≡ true → (is_number F i.low ≡ true) × (is_number F i.high ≡ true)
-ends_numbers F i h = let k = finite_both F i h in (number_of F i.low k.0, number_of F i.high k.1)
+ends_numbers F i h = let k = ends_both F i h in (number_of F i.low k.0, number_of F i.high k.1)
 
 -- ---- the kit's account, at a format that is the kit's
 module _ (F : I.Format) (G : Format) (g : G ≡ here F) where
@@ -160,8 +151,8 @@ module _ (F G : Format) (g : G ≡ F) (p : ℕ) (ok : Sound F) (t : is_finite F 
 
   pub canonical_zero : p ≡ G.sign → 0 ≡ pattern F (ordinal F p)
   unfolding L.canonical
-  canonical_zero h = sym (pattern_ordinal F.fraction F.exponent p (number_of F p t) ∙ ap (λ (b : Bool). cond b 0 p) (eq-eqb _ _ (h ∙ sign_at)))
+  canonical_zero h = sym (pattern_ordinal F.fraction F.exponent p t ∙ ap (λ (b : Bool). cond b 0 p) (eq-eqb _ _ (h ∙ sign_at)))
 
   pub canonical_same : (p ≡ G.sign → ⊥) → p ≡ pattern F (ordinal F p)
   unfolding L.canonical
-  canonical_same h = sym (pattern_ordinal F.fraction F.exponent p (number_of F p t) ∙ ap (λ (b : Bool). cond b 0 p) (ne_eqb _ _ (λ z. h (z ∙ sym sign_at))))
+  canonical_same h = sym (pattern_ordinal F.fraction F.exponent p t ∙ ap (λ (b : Bool). cond b 0 p) (ne_eqb _ _ (λ z. h (z ∙ sym sign_at))))

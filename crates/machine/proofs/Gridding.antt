@@ -20,12 +20,11 @@ use Rattle.ladder.proofs.Grid.{far_above, far_below}
 use Rattle.arith.specs.declared.format.Format.{Format}
 use Rattle.arith.specs.declared.interval.Interval as E
 use Rattle.arith.specs.Formats.{Sound, is_finite, ordinal, sum}
-use Rattle.arith.proofs.Formats.{both, infinity_lt, number_word, ordinal_low, ordinal_high}
+use Rattle.arith.proofs.Formats.{both, infinity_lt, finite_fits, ordinal_low, ordinal_high}
 use Rattle.arith.proofs.Clamping.{field}
 use Rattle.machine.specs.declared.guess.Pair.{Pair}
 use Rattle.machine.specs.Floats.{ordinals, unsigned, HalfUlp, Adds, Negates}
 use Rattle.machine.specs.Shortcuts.{left_x, left_a, Gridded, Passes, over, under}
-use Rattle.machine.proofs.Floats.{number_of}
 use Rattle.machine.proofs.HalfUlps.{low_finite, size_low, size_high, size_lt}
 
 -- all of I lie m ordinals or more above zero, or below it
@@ -72,7 +71,7 @@ module _ (F : Format) (ok : Sound F) where
   from_plus m p I l h i = above (omega (arith, ok.sign, ordinal_low F ok p l, size_low F ok p l))
 
   from_minus : (m p : ℕ) (I : Interval) → F.sign ≤ p → is_finite F p ≡ true → m ≤ unsigned F p → I.high ≤ ordinal F p → Apart F m I
-  from_minus m p I l n h i = below (omega (arith, ok.sign, ordinal_high F ok p l, size_high F ok p l, number_word F ok p (number_of F p n)))
+  from_minus m p I l n h i = below (omega (arith, ok.sign, ordinal_high F ok p l, size_high F ok p l, finite_fits F ok p n))
 
   -- ---- the step
   pub size_chosen : (first : Bool) (p q r : ℕ) → r ≡ cond first p q → is_finite F p ≡ true → is_finite F q ≡ true → unsigned F r < F.infinity

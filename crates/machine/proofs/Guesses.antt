@@ -13,11 +13,13 @@ use Rattle.ladder.proofs.Trimming.{threshold_after, trim_none, trim_up, trim_dow
 use Rattle.arith.specs.declared.format.Format.{Format}
 use Rattle.arith.specs.declared.interval.Interval.{Interval}
 use Rattle.arith.specs.Formats.{Sound, is_finite, ordinal, sum}
+use Rattle.arith.specs.Intervals.{ends_finite}
 use Rattle.arith.proofs.Formats.{both, infinity_lt, finite_high, ordinal_low, ordinal_high}
+use Rattle.arith.proofs.Intervals.{ends_both}
 use Rattle.machine.specs.declared.guess.Checked.{Checked}
-use Rattle.machine.specs.Floats.{ordinals, unsigned, Adds, Negates, ends_finite}
+use Rattle.machine.specs.Floats.{ordinals, unsigned, Adds, Negates}
 use Rattle.machine.specs.Shortcuts.{Checks, Trims}
-use Rattle.machine.proofs.Floats.{chosen, finite_both}
+use Rattle.machine.proofs.Floats.{chosen}
 use Rattle.machine.proofs.HalfUlps.{low_finite, size_low, size_high}
 
 -- with nothing else to hold
@@ -157,7 +159,7 @@ module _ (F : Format) (ok : Sound F) where
         let i = S.is X in
         rw w.is
         (trim_down F.fraction F.exponent ok.some (ordinals F b) (ordinal F x) (ordinal F a) (ordinal F t.y)
-        (ordinal_finite F.fraction F.exponent x X) (ordinal_finite F.fraction F.exponent a A) (ordinal_finite F.fraction F.exponent b.high (finite_both F b B).1)
+        (ordinal_finite F.fraction F.exponent x X) (ordinal_finite F.fraction F.exponent a A) (ordinal_finite F.fraction F.exponent b.high (ends_both F b B).1)
         (omega (arith, leb-false (ordinal F s) (ordinal F b.high) h))
         (rw (u.is, v.is) at (k.least e)))
 

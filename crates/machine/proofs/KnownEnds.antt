@@ -13,20 +13,23 @@ use Rattle.ladder.specs.Solution.{In, Bounded}
 use Rattle.ladder.specs.Solution as Solution
 use Rattle.ladder.specs.Narrowing as N
 use Rattle.ladder.proofs.Cases.{le_or_lt}
-use Rattle.ladder.proofs.Ordinals.{ordinal_finite, number_finite, finite_twice}
+use Rattle.ladder.proofs.Ordinals.{ordinal_finite, finite_twice}
+use Rattle.ladder.proofs.Numbers.{number_finite}
 use Rattle.ladder.proofs.Sum.{sum_comm, sum_mono, sum_mirror}
 use Rattle.ladder.proofs.LeastSum.{lows_least, floor_least}
 use Rattle.ladder.proofs.Grid.{grid_low}
-use Rattle.ladder.proofs.Solutions.{finite_in, in_reflected, bounded_numbers, mirror_bounded, mirror_grid, mirror_b, mirror_b_greatest}
+use Rattle.ladder.proofs.Solutions.{finite_in, in_reflected, mirror_bounded, mirror_grid, mirror_b, mirror_b_greatest}
 use Rattle.arith.specs.declared.format.Format.{Format}
 use Rattle.arith.specs.declared.interval.Interval.{Interval}
-use Rattle.arith.specs.Formats.{Sound, is_finite, Finite, ordinal, sum, mirrored, is_number}
+use Rattle.arith.specs.Formats.{Sound, is_finite, Finite, ordinal, sum, mirrored}
+use Rattle.arith.specs.Intervals.{ends_finite}
 use Rattle.arith.proofs.Formats.{both}
+use Rattle.arith.proofs.Intervals.{ends_both, range_ends}
 use Rattle.machine.specs.declared.guess.Pair.{Pair}
 use Rattle.machine.specs.declared.«end».End.{End}
-use Rattle.machine.specs.Floats.{ordinals, Adds, Negates, ends_finite}
+use Rattle.machine.specs.Floats.{is_number, ordinals, Adds, Negates}
 use Rattle.machine.specs.Shortcuts.{left_x, left_a, HasB, CornersOf, Known, at_low, at_sum, at_gap, KnownEnd, LowEnd, HighEnd, Reached, Mirrors}
-use Rattle.machine.proofs.Floats.{number_of, chosen, finite_both, finite_range}
+use Rattle.machine.proofs.Floats.{number_of, chosen}
 
 -- ---- one of two
 module _ (F : Format) where
@@ -56,7 +59,7 @@ module _ (F : Format) where
   -- a number inside an interval
   pub inside_finite : (i : Interval) → ends_finite F i ≡ true → (p : ℕ) → is_number F p ≡ true → In (ordinals F i) (ordinal F p) → is_finite F p ≡ true
   inside_finite i h p n w =
-      let e = finite_both F i h in
+      let e = ends_both F i h in
       between p n (ordinal F i.low) (ordinal F i.high) (finite_at i.low e.0) (finite_at i.high e.1) w.low w.high
 
   -- ---- an end that a sum shows
@@ -179,7 +182,7 @@ module _ (F : Format) (ok : Sound F) where
     B = ordinals F b
 
     ends : Bounded f e B
-    ends = finite_range F b c.finite
+    ends = range_ends F b _ refl c.finite
 
     -- both corners stand in triples of what is left
     first_in : HasB F (left_x p q) (left_a p q) b (ordinal F p.sum)
@@ -217,7 +220,7 @@ module _ (F : Format) (ok : Sound F) where
     pub low_ready : (t : Bool) (low k : ℕ) → Adds F p.low q.low low → k ≡ cond t p.sum q.sum → Ready F low k u b.low
     low_ready t low k s z =
         let o = lows_below X A B low k u b.low (s.is c.first.low) refl (corner_in t k z) in
-        (s.number, corner_finite t k z, c.u_finite, (finite_both F b c.finite).0, o.0, o.1)
+        (s.number, corner_finite t k z, c.u_finite, (ends_both F b c.finite).0, o.0, o.1)
 
     pub low_end : (t : Bool) (low k : ℕ) (r : End) → Adds F p.low q.low low → k ≡ cond t p.sum q.sum → KnownEnd F low k u b.low r → LowEnd F p q b r
     low_end t low k r s z w = record {
@@ -245,7 +248,7 @@ module _ (F : Format) (ok : Sound F) where
       pub high_ready : Ready F low k u v
       high_ready =
           let o = lows_below (S.reflection f e X) (S.reflection f e A) (S.reflection f e B) low k u v low_is nv.is mirrored_in in
-          (nl.number, nk.finite (corner_finite t g z), c.u_finite, nv.finite (finite_both F b c.finite).1, o.0, o.1)
+          (nl.number, nk.finite (corner_finite t g z), c.u_finite, nv.finite (ends_both F b c.finite).1, o.0, o.1)
 
       pub high_end : (r : End) (w : ℕ) → KnownEnd F low k u v r → Negates F r.b w → HighEnd F p q b (record { b = w; known = r.known })
       high_end r w d nw = record {
@@ -264,10 +267,10 @@ module _ (F : Format) (ok : Sound F) where
     mirror_order l = omega (arith, m.1, m.2)
 
     mirror_in_lem : (y : ℕ) → In (ordinals F r) y → In (ordinals F i) (mirrored F y)
-    mirror_in_lem y w = in_reflected f e (ordinals F i) (bounded_numbers (finite_range F i n)) y (record { low = omega (arith, m.1); high = omega (arith, m.2) })
+    mirror_in_lem y w = in_reflected f e (ordinals F i) (range_ends F i _ refl n) y (record { low = omega (arith, m.1); high = omega (arith, m.2) })
 
     mirror_twice : (y : ℕ) → In (ordinals F r) y → y ≤ 2 * L.sign f e
-    mirror_twice y w = finite_twice f e y (finite_in f e (ordinals F r) (finite_range F r m.0) y w)
+    mirror_twice y w = finite_twice f e y (finite_in f e (ordinals F r) (range_ends F r _ refl m.0) y w)
 
   pub mirror_made : (i j r s : Interval) (b v : ℕ) → ends_finite F i ≡ true → ends_finite F j ≡ true → is_finite F b ≡ true → Mirrors F i r → Mirrors F j s → Negates F b v → Reached F r s v → Reached F i j b
   mirror_made i j r s b v ni nj nb mr ms nv t = record {

@@ -21,16 +21,14 @@ use Rattle.arith.specs.declared.narrow.Narrowed.{Narrowed}
 use Rattle.arith.specs.declared.narrow.Narrowed.TheVariants as Narrowed
 use Rattle.arith.specs.Refusals.{refusal}
 use Rattle.arith.specs.Formats.{Sound, is_finite, Finite, ordinal, sum, mirrored}
-use Rattle.arith.specs.Intervals.{ends_number, is_ordered, range_of}
-use Rattle.arith.specs.Searches.{finite_narrowing}
-use Rattle.arith.specs.Narrows.{narrow_answer, narrow_ranges, narrow_in}
+use Rattle.arith.specs.Intervals.{ends_finite, is_ordered, range_of}
+use Rattle.arith.specs.Narrows.{narrowing, written, narrow_answer, narrow_finite, narrow_in}
+use Rattle.arith.proofs.Intervals.{ends_both}
 use Rattle.arith.proofs.Refusing.{passed}
-use Rattle.arith.proofs.Narrowings.{finite_same}
 use Rattle.machine.specs.declared.guess.Pair.{Pair}
 use Rattle.machine.specs.declared.«end».End.{End}
-use Rattle.machine.specs.Floats.{ordinals, ends_finite}
+use Rattle.machine.specs.Floats.{ordinals}
 use Rattle.machine.specs.Shortcuts.{Admitted, Trimmings, left_x, left_a, HasB, Gridded, Passes, over, under, Bounds, Corners, CornersOf, LowEnd, HighEnd, Reached, ends_of, left_of, Answers}
-use Rattle.machine.proofs.Floats.{finite_both, finite_range, ends_numbers}
 use Rattle.machine.proofs.KnownEnds.{ends_of_lem}
 
 -- a test of two parts that fails
@@ -67,23 +65,18 @@ module _ (F : Format) (ok : Sound F) (x a b : I.Interval) where
 
   -- ---- the answer of finite intervals in order
   module _ (t : Admitted F x a b) where
-    number_ends : (i : I.Interval) → ends_finite F i ≡ true → ends_number F i ≡ true
-    unfolding ends_number
-    number_ends i h = let k = ends_numbers F i h in rw (k.0, k.1)
-
-    in_format : (n : N.Narrowing) → n ≡ finite_narrowing F (range_of F x) (range_of F a) (range_of F b) → narrow_answer F n ≡ narrow_in F x a b
-    unfolding narrow_in narrow_ranges
-    in_format n h =
-        passed Narrowed.Refused 2 (ends_number F x) _ (number_ends x t.finite.0)
-        (passed Narrowed.Refused 2 (ends_number F a) _ (number_ends a t.finite.1)
-        (passed Narrowed.Refused 2 (ends_number F b) _ (number_ends b t.finite.2)
+    in_format : (r : Narrowed) → r ≡ narrow_answer F (narrowing F (range_of F x) (range_of F a) (range_of F b)) → r ≡ narrow_in F x a b
+    unfolding narrow_in narrow_finite
+    in_format r h =
+        passed Narrowed.Refused 2 (ends_finite F x) _ t.finite.0
+        (passed Narrowed.Refused 2 (ends_finite F a) _ t.finite.1
+        (passed Narrowed.Refused 2 (ends_finite F b) _ t.finite.2
         (passed Narrowed.Refused 3 (is_ordered (range_of F x)) _ t.ordered.0
         (passed Narrowed.Refused 3 (is_ordered (range_of F a)) _ t.ordered.1
-        (passed Narrowed.Refused 3 (is_ordered (range_of F b)) _ t.ordered.2
-        (ap (narrow_answer F) (finite_same F (range_of F x) (range_of F a) (range_of F b) ok (finite_range F x t.finite.0) (finite_range F a t.finite.1) (finite_range F b t.finite.2) n h)))))))
+        (passed Narrowed.Refused 3 (is_ordered (range_of F b)) _ t.ordered.2 h)))))
 
-    pub none_answer : N.none ≡ finite_narrowing F (range_of F x) (range_of F a) (range_of F b) → Narrowed.Refused (refusal 11) ≡ narrow_in F x a b
-    none_answer h = in_format N.none h
+    pub none_answer : N.none ≡ narrowing F (range_of F x) (range_of F a) (range_of F b) → Narrowed.Refused (refusal 11) ≡ narrow_in F x a b
+    none_answer h = in_format (Narrowed.Refused (refusal 11)) (ap (narrow_answer F) h)
 
   module _ (p q : Pair) (m : Trimmings F x a b p q) (sp : p.sure ≡ true) (sq : q.sure ≡ true) where
     abbrev tp : S.Trimmed f e B X.low A.high (ordinal F p.low) (ordinal F p.high)
@@ -93,15 +86,15 @@ module _ (F : Format) (ok : Sound F) (x a b : I.Interval) where
     tq = m.second.trimmed sq
 
     -- ---- there is no triple
-    pub disorder_none : (leb (ordinal F p.low) (ordinal F q.high) && leb (ordinal F q.low) (ordinal F p.high)) ≡ false → N.none ≡ finite_narrowing F (range_of F x) (range_of F a) (range_of F b)
+    pub disorder_none : (leb (ordinal F p.low) (ordinal F q.high) && leb (ordinal F q.low) (ordinal F p.high)) ≡ false → N.none ≡ narrowing F (range_of F x) (range_of F a) (range_of F b)
     disorder_none h = elim (not_both (leb (ordinal F p.low) (ordinal F q.high)) (leb (ordinal F q.low) (ordinal F p.high)) h) [
       | inl g ↦ never_x f e X A B (trimmed_never_x f e ok.some X A B _ _ _ _ tp tq (leb-false _ _ g))
       | inr g ↦ never_x f e X A B (trimmed_never_a f e ok.some X A B _ _ _ _ tp tq (leb-false _ _ g))
     ]
 
-    pub passes_none : (u s y z : ℕ) → Gridded F p q u → ends_finite F b ≡ true → In (ordinals F (left_x p q)) y → In (ordinals F (left_a p q)) z → ordinal F s ≡ sum F y z → Passes F s u b → N.none ≡ finite_narrowing F (range_of F x) (range_of F a) (range_of F b)
+    pub passes_none : (u s y z : ℕ) → Gridded F p q u → ends_finite F b ≡ true → In (ordinals F (left_x p q)) y → In (ordinals F (left_a p q)) z → ordinal F s ≡ sum F y z → Passes F s u b → N.none ≡ narrowing F (range_of F x) (range_of F a) (range_of F b)
     passes_none u s y z g n i j h w =
-        let k = finite_both F b n in
+        let k = ends_both F b n in
         let nl = ordinal_finite f e b.low k.0 in
         let nh = ordinal_finite f e b.high k.1 in
         let X' = ordinals F (left_x p q) in
@@ -114,7 +107,7 @@ module _ (F : Format) (ok : Sound F) (x a b : I.Interval) where
 
     -- ---- or the ends are those of the triples
     module _ (o : Bounds F p q) (c : Corners F b p q) where
-      corners_ends : (I' : Interval) → N.Spans (HasB F (left_x p q) (left_a p q) b) I' → N.ends (ordinals F (left_x p q)) (ordinals F (left_a p q)) I' ≡ finite_narrowing F (range_of F x) (range_of F a) (range_of F b)
+      corners_ends : (I' : Interval) → N.Spans (HasB F (left_x p q) (left_a p q) b) I' → N.ends (ordinals F (left_x p q)) (ordinals F (left_a p q)) I' ≡ narrowing F (range_of F x) (range_of F a) (range_of F b)
       corners_ends I' s = trimmed_ends f e ok.some X A B _ _ _ _ tp tq o.x_order o.a_order (ordinal F p.sum) (ordinal F q.sum) m.first.summed.is c.first m.second.summed.is c.second I' s
 
 -- ---- b's own ends
@@ -133,7 +126,7 @@ module _ (F : Format) (ok : Sound F) (x a b : I.Interval) (t : Admitted F x a b)
   pub trim_takes : (h : I.Interval) → ends_finite F h ≡ true
       → ((is_finite F x.low ≡ true) × (is_finite F a.high ≡ true) × (ends_finite F b ≡ true) × (ends_finite F h ≡ true) × (ordinal F b.low ≤ ordinal F b.high))
       × ((is_finite F a.low ≡ true) × (is_finite F x.high ≡ true) × (ends_finite F b ≡ true) × (ends_finite F h ≡ true) × (ordinal F b.low ≤ ordinal F b.high))
-  trim_takes h g = let i = finite_both F x t.finite.0 in let j = finite_both F a t.finite.1 in let n = t.finite.2 in let l = order_of F b t.ordered.2 in ((i.0, j.1, n, g, l), (j.0, i.1, n, g, l))
+  trim_takes h g = let i = ends_both F x t.finite.0 in let j = ends_both F a t.finite.1 in let n = t.finite.2 in let l = order_of F b t.ordered.2 in ((i.0, j.1, n, g, l), (j.0, i.1, n, g, l))
 
 -- ---- the answer by the corners and b's ends
 module _ (F : Format) (ok : Sound F) (x a b : I.Interval) (t : Admitted F x a b) (p q : Pair) (m : Trimmings F x a b p q) where
@@ -155,7 +148,7 @@ module _ (F : Format) (ok : Sound F) (x a b : I.Interval) (t : Admitted F x a b)
       let d = order_of F b t.ordered.2 in
       let B' : Interval = record { low = ordinal F l.b; high = ordinal F h.b } in
       let e = corners_ends F ok x a b p q m s.0.first s.0.second s.0 s.1 B' (spans_of (low_end_least F b p q d l lo w.0) (high_end_greatest F b p q d h hi w.1)) in
-      in_format F ok x a b t _ e
+      in_format F ok x a b t (Narrowed.Ends (written F (ordinals F (left_x p q))) (written F (ordinals F (left_a p q))) (written F (record { low = ordinal F l.b; high = ordinal F h.b }))) (ap (narrow_answer F) e)
 
   -- what is left is narrowed alike
   left_admitted : Bounds F p q → Admitted F (left_x p q) (left_a p q) b
@@ -168,4 +161,4 @@ module _ (F : Format) (ok : Sound F) (x a b : I.Interval) (t : Admitted F x a b)
   pub left_answer : Bounds F p q → Answers (λ y z. narrow_in F y z b) x a (left_of p q b)
   left_answer o =
       sym (in_format F ok (left_x p q) (left_a p q) b (left_admitted o) _ refl)
-      ∙ in_format F ok x a b t _ (trimmed_same F.fraction F.exponent ok.some (ordinals F x) (ordinals F a) (ordinals F b) _ _ _ _ (m.first.trimmed o.first) (m.second.trimmed o.second))
+      ∙ in_format F ok x a b t _ (ap (narrow_answer F) (trimmed_same F.fraction F.exponent ok.some (ordinals F x) (ordinals F a) (ordinals F b) _ _ _ _ (m.first.trimmed o.first) (m.second.trimmed o.second)))

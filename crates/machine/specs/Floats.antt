@@ -1,18 +1,19 @@
 -- Numbers by their patterns, as the machine's floats have them: binary64 where wide, else binary32. For contracts inside the crate; no public one cites it. Assumes nothing.
-use Rattle.std.specs.Prelude.{◌≡◌, Bool, true, false, cond, ◌&&◌, ℕ, ◌-◌, ◌/◌, ◌^◌, ◌≤◌, ◌<◌, ltb}
+use Rattle.std.specs.Prelude.{◌≡◌, Bool, true, false, cond, ℕ, ◌-◌, ◌/◌, ◌^◌, ◌≤◌, ◌<◌, ltb}
 use Rattle.ladder.specs.Magnitude.{magnitude}
+use Rattle.ladder.specs.Ordinal as L
 use Rattle.ladder.specs.Solution as S
 use Rattle.arith.specs.declared.format.Format.{Format}
 use Rattle.arith.specs.declared.interval.Interval.{Interval}
-use Rattle.arith.specs.Formats.{binary, is_finite, is_number, ordinal, sum, mirrored}
+use Rattle.arith.specs.Formats.{binary, is_finite, ordinal, sum, mirrored}
 
 -- the format of the machine's floats
 abbrev pub machine : Bool → Format
 machine wide = cond wide (binary 52 11) (binary 23 8)
 
--- whether both ends of an interval are finite
-unfoldable pub ends_finite : Format → Interval → Bool
-ends_finite F I = is_finite F I.low && is_finite F I.high
+-- whether a pattern is a number's: finite or an infinity's
+abbrev pub is_number : Format → ℕ → Bool
+is_number F p = L.is_number F.fraction F.exponent p
 
 -- the numbers of an interval, by their ordinals
 abbrev pub ordinals : Format → Interval → S.Interval

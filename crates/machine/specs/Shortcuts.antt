@@ -8,10 +8,9 @@ use Rattle.arith.specs.declared.interval.Interval.{Interval}
 use Rattle.arith.specs.declared.narrow.Narrowed.{Narrowed}
 use Rattle.arith.specs.declared.narrow.Narrowed.TheVariants as Narrowed
 use Rattle.arith.specs.Refusals.{refusal}
-use Rattle.arith.specs.Formats.{is_finite, Finite, ordinal, sum, mirrored, is_number}
-use Rattle.arith.specs.Intervals.{range_of, is_ordered}
-use Rattle.arith.specs.Searches.{finite_narrowing}
-use Rattle.arith.specs.Narrows.{written}
+use Rattle.arith.specs.Formats.{is_finite, Finite, ordinal, sum, mirrored}
+use Rattle.arith.specs.Intervals.{range_of, ends_finite, is_ordered}
+use Rattle.arith.specs.Narrows.{narrowing, written}
 use Rattle.machine.specs.declared.guess.Checked.{Checked}
 use Rattle.machine.specs.declared.guess.Pair.{Pair}
 use Rattle.machine.specs.declared.«end».End.{End}
@@ -20,7 +19,7 @@ use Rattle.machine.specs.declared.shortcut.Verdict.TheVariants as Verdict
 use Rattle.machine.specs.declared.shortcut.Shortcut.{Shortcut}
 use Rattle.machine.specs.declared.shortcut.Finding.{Finding}
 use Rattle.machine.specs.declared.shortcut.Finding.TheVariants as Finding
-use Rattle.machine.specs.Floats.{ordinals, ends_finite}
+use Rattle.machine.specs.Floats.{is_number, ordinals}
 
 -- ---- the intervals
 -- their ends are finite and in order
@@ -98,7 +97,7 @@ pub record CornersOf (F : Format) (p q : Pair) (u : ℕ) (b : Interval) : Type 0
 -- sure bounds, in order, that are corners; or that there is no triple; or sure bounds in order; else nothing is said
 abbrev pub Judges : Format → Interval → Interval → Interval → Pair → Pair → Verdict → Type 0
 Judges F x a b p q Verdict.Corners = Bounds F p q × Corners F b p q
-Judges F x a b p q Verdict.None = N.none ≡ finite_narrowing F (range_of F x) (range_of F a) (range_of F b)
+Judges F x a b p q Verdict.None = N.none ≡ narrowing F (range_of F x) (range_of F a) (range_of F b)
 Judges F x a b p q Verdict.Bounds = Bounds F p q
 Judges F x a b p q Verdict.Unsure = Unit {0}
 

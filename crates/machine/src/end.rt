@@ -1,7 +1,8 @@
 // The ends of b by a few sums: the sum of the low ends, a sum below which the grid has none that reaches b, or b's own end where one more sum makes it. Where these do not settle it, that is said.
 ghost use Rattle.std.specs.Prelude.{◌≡◌, true, false, ◌≤◌};
-ghost use Rattle.arith.specs.Formats.{is_finite, ordinal, is_number};
-ghost use Rattle.machine.specs.Floats.{machine, ends_finite};
+ghost use Rattle.arith.specs.Formats.{is_finite, ordinal};
+ghost use Rattle.arith.specs.Intervals.{ends_finite};
+ghost use Rattle.machine.specs.Floats.{machine, is_number};
 ghost use Rattle.machine.specs.Shortcuts.{Summed, left_x, left_a, Bounds, CornersOf, KnownEnd, LowEnd, HighEnd, Reached, Mirrors};
 
 use crate::float::{add, at_most, both, choose, either, greater, lesser, opposite};

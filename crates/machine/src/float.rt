@@ -1,7 +1,7 @@
 // Numbers by their patterns, as the machine's floats have them: binary64 where wide, else binary32. Rests on the kit's account of `+`, `<=` and `<` on f32 and f64.
 ghost use Rattle.std.specs.Prelude.{◌≡◌, ◌&&◌, ◌||◌, true, cond, ◌+◌, ◌-◌, leb, ltb};
-ghost use Rattle.arith.specs.Formats.{is_finite, ordinal, pattern, is_number};
-ghost use Rattle.machine.specs.Floats.{machine, FitsWidth, Adds, Negates, unsigned};
+ghost use Rattle.arith.specs.Formats.{is_finite, ordinal, pattern};
+ghost use Rattle.machine.specs.Floats.{machine, is_number, FitsWidth, Adds, Negates, unsigned};
 
 use arith::format::{Format, format_of};
 

@@ -1,7 +1,8 @@
 // The grid of the sums: operands of opposite signs that are far from zero are multiples of a power of two, and so are their sums. A stretch between two such multiples holds none.
 ghost use Rattle.std.specs.Prelude.{◌≡◌, true, ◌+◌, ◌^◌, ◌<◌, min};
-ghost use Rattle.arith.specs.Formats.{is_finite, is_number};
-ghost use Rattle.machine.specs.Floats.{machine, HalfUlp, ends_finite};
+ghost use Rattle.arith.specs.Formats.{is_finite};
+ghost use Rattle.arith.specs.Intervals.{ends_finite};
+ghost use Rattle.machine.specs.Floats.{machine, is_number, HalfUlp};
 ghost use Rattle.machine.specs.Shortcuts.{Summed, Gridded, Passes};
 
 use crate::float::{add, at_most, both, choose, finite_at, format_at, opposite, size};

@@ -1,7 +1,8 @@
 // The least operand by a guess: mostly a difference of floats is it or the float before it, and two sums show which. Nothing of the guess needs a proof; where the sums do not show it, that is said.
 ghost use Rattle.std.specs.Prelude.{◌≡◌, true, ◌≤◌};
-ghost use Rattle.arith.specs.Formats.{is_finite, ordinal, is_number};
-ghost use Rattle.machine.specs.Floats.{machine, ends_finite};
+ghost use Rattle.arith.specs.Formats.{is_finite, ordinal};
+ghost use Rattle.arith.specs.Intervals.{ends_finite};
+ghost use Rattle.machine.specs.Floats.{machine, is_number};
 ghost use Rattle.machine.specs.Shortcuts.{Checks, Trims};
 
 use crate::float::{add, at_most, below, both, choose, either, format_at, opposite, size};

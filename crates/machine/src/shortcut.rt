@@ -1,9 +1,9 @@
 // The narrowing by a few sums of the machine, without a search, and nearly without a branch that is hard to foresee. Where these do not settle it, what they leave of x and a is handed on, for the exact way of `arith`. The function that joins the steps stands once for each width, so that the compiler makes each step without a test of the width.
 ghost use Rattle.std.specs.Prelude.{◌≡◌, ◌&&◌, true, leb};
-ghost use Rattle.arith.specs.Formats.{format_of, is_finite, ordinal, is_number};
-ghost use Rattle.arith.specs.Intervals.{range_of, is_ordered};
+ghost use Rattle.arith.specs.Formats.{format_of, is_finite, ordinal};
+ghost use Rattle.arith.specs.Intervals.{ends_finite, range_of, is_ordered};
 ghost use Rattle.arith.specs.Narrows.{written, narrow_in, narrow_of};
-ghost use Rattle.machine.specs.Floats.{machine, FitsWidth, ends_finite};
+ghost use Rattle.machine.specs.Floats.{machine, is_number, FitsWidth};
 ghost use Rattle.machine.specs.Shortcuts.{Admitted, Summed, Trimmings, Gridded, Judges, ends_of, left_of, Answers};
 
 use crate::end::{attained, high_end, low_end};

@@ -1,11 +1,9 @@
 -- 02's rules by the kind of a record, and that they read the values of its own cells alone. Assumes nothing.
 use mathlib.Core.Path.{◌≡◌, ap}
-use mathlib.Core.Bool.{Bool}
 use Prim.Native.Nat.{ℕ}
-use Rattle.ladder.specs.Extended.{makes}
 use Rattle.sheet.specs.declared.kept.Record.{Record}
 use Rattle.sheet.specs.Members.{Each}
-use Rattle.sheet.specs.Records.{Kind, sum, diff, neg, kind_of, named_by, Values, fits_with, fits_by, Local, fits}
+use Rattle.sheet.specs.Records.{Kind, sum, diff, neg, kind_of, named_by, Values, fits_by, Local, fits}
 
 module _ (f e : ℕ) where
   -- of a known kind
@@ -13,14 +11,12 @@ module _ (f e : ℕ) where
   unfolding fits
   fits_as r k q v = ap (λ (l : Kind). fits_by f e l (v r.x) (v r.a) (v r.b)) q
 
-  -- values that agree at a record's cells fit alike, by whatever test of triples
-  pub fits_kind :
-      (adds : ℕ → ℕ → ℕ → Bool) (k : Kind) (r : Record) (v w : Values) → Each (λ i. v i ≡ w i) (named_by k r) →
-      fits_with adds f e k (v r.x) (v r.a) (v r.b) ≡ fits_with adds f e k (w r.x) (w r.a) (w r.b)
-  fits_kind adds sum r v w s = rw (s.0, s.1.0, s.1.1.0)
-  fits_kind adds diff r v w s = rw (s.0, s.1.0, s.1.1.0)
-  fits_kind adds neg r v w s = rw (s.0, s.1.0)
+  -- values that agree at a record's cells fit alike
+  fits_kind : (k : Kind) (r : Record) (v w : Values) → Each (λ i. v i ≡ w i) (named_by k r) → fits_by f e k (v r.x) (v r.a) (v r.b) ≡ fits_by f e k (w r.x) (w r.a) (w r.b)
+  fits_kind sum r v w s = rw (s.0, s.1.0, s.1.1.0)
+  fits_kind diff r v w s = rw (s.0, s.1.0, s.1.1.0)
+  fits_kind neg r v w s = rw (s.0, s.1.0)
 
   pub fits_local : Local (fits f e)
   unfolding fits
-  fits_local r v w s = fits_kind (makes f e) (kind_of r.kind) r v w s
+  fits_local r v w s = fits_kind (kind_of r.kind) r v w s

@@ -10,13 +10,13 @@ use lib.ListN.{length, set, length-set}
 use lib.Seq.{get_or-set_same, get_or-set_other}
 use borrow.Author.Tests.{eq-eqb, ne_eqb, eqb-true}
 use Rattle.ladder.specs.Ordinal.{mirrored}
-use Rattle.ladder.specs.Solution.{Interval, In, Numbers, SolutionBy}
-use Rattle.ladder.specs.Narrowing.{Narrowing, none, ends, HasABy, Spans, HullBy}
-use Rattle.ladder.specs.Extended.{Makes, makes, extended_narrowing}
+use Rattle.ladder.specs.Sum as Sum
+use Rattle.ladder.specs.Solution as L
+use Rattle.ladder.specs.Solution.{Interval, In, Bounded}
+use Rattle.ladder.specs.Narrowing.{Narrowing, none, ends, narrowing, HasA, Spans, Hull}
 use Rattle.ladder.specs.Search.{reflection}
 use Rattle.ladder.proofs.Hull.{narrowing_none, narrowing_hull, same_spans}
-use Rattle.ladder.proofs.Parts.{makes_decides}
-use Rattle.ladder.proofs.Ordinals.{number_twice}
+use Rattle.ladder.proofs.Ordinals.{finite_twice}
 use Rattle.ladder.proofs.Solutions.{in_reflection, in_reflected}
 use Rattle.ladder.proofs.Reflection.{in_twice, mirror_twice, mirror_spans}
 use Rattle.arith.proofs.Valid.{shared}
@@ -28,7 +28,6 @@ use Rattle.propagation.specs.Runs.{Step, unsolved, left, step}
 use Rattle.propagation.specs.Consistency.{Solution, Has}
 use Rattle.propagation.proofs.Boxes.{set_cases}
 use Rattle.propagation.proofs.Fitting.{fits_local, fits_as}
-use Rattle.propagation.proofs.Searching.{true_holds, holds_true}
 use Rattle.propagation.proofs.Stepping.{Left, step_unique}
 
 -- ---- values of a record's cells: u at x, v at a, w at the others
@@ -98,13 +97,13 @@ step_of c r h (ends X A B) = left (put c r X (h A) B)
 -- ---- a sum x ⊕ g a = b: the values g a of a's cell run through A, and h turns an interval of them back
 module _ (f e : ℕ) (c : Box) (r : Record) (t : Three c r) (A : Interval) (g : ℕ → ℕ) (h : Interval → Interval)
     (naming : named r ≡ r.x ∷ r.a ∷ r.b ∷ [])
-    (fitting : (v : Values) → fits f e r v ≡ makes f e (v r.x) (g (v r.a)) (v r.b))
+    (fitting : (v : Values) → fits f e r v ≡ eqb (Sum.sum f e (v r.x) (g (v r.a))) (v r.b))
     (to : (y : ℕ) → In (at c r.a) y → In A (g y))
     (from : (y : ℕ) → In A y → In (at c r.a) (g y))
     (twice : (y : ℕ) → In A y → g (g y) ≡ y)
     (back : (P : ℕ → Type 0) → ((y : ℕ) → P y → In A y) → (I : Interval) → Spans P I → Spans (λ y. In (at c r.a) y × P (g y)) (h I)) where
   abbrev Turned : ℕ → ℕ → ℕ → Type 0
-  Turned x a b = SolutionBy (Makes f e) (at c r.x) A (at c r.b) x a b
+  Turned x a b = L.Solution f e (at c r.x) A (at c r.b) x a b
 
   abbrev Triple : ℕ → ℕ → ℕ → Type 0
   Triple x a b = In (at c r.a) a × Turned x (g a) b
@@ -113,12 +112,12 @@ module _ (f e : ℕ) (c : Box) (r : Record) (t : Three c r) (A : Interval) (g : 
   solution_to : (v : Values) → Solution (fits f e) c r v → Triple (v r.x) (v r.a) (v r.b)
   solution_to v s =
       let i = subst (Each (λ j. In (at c j) (v j))) naming s.inside in
-      (i.1.0, record { x_in = i.0; a_in = to (v r.a) i.1.0; b_in = i.1.1.0; is = (makes_decides f e).yes _ _ _ (true_holds _ (sym (fitting v) ∙ s.fits)) })
+      (i.1.0, record { x_in = i.0; a_in = to (v r.a) i.1.0; b_in = i.1.1.0; is = eqb-true _ _ (sym (fitting v) ∙ s.fits) })
 
   solution_from : (v : Values) → Triple (v r.x) (v r.a) (v r.b) → Solution (fits f e) c r v
   solution_from v p = record {
     inside = subst (Each (λ j. In (at c j) (v j))) (sym naming) (p.1.x_in, (p.0, (p.1.b_in, tt)));
-    fits = fitting v ∙ holds_true _ ((makes_decides f e).no _ _ _ p.1.is);
+    fits = fitting v ∙ eq-eqb _ _ p.1.is;
   }
 
   made : (x a b : ℕ) → Triple x a b → Solution (fits f e) c r (three r.x r.a x a b)
@@ -139,7 +138,7 @@ module _ (f e : ℕ) (c : Box) (r : Record) (t : Three c r) (A : Interval) (g : 
   has_b : (x a b : ℕ) → Triple x a b → Has (fits f e) c r r.b b
   has_b x a b p = record { values = three r.x r.a x a b; is = at_b r.x r.a r.b x a b t.b_x t.b_a; solution = made x a b p }
 
-  module _ (X' A' B' : Interval) (hull : HullBy (Makes f e) (at c r.x) A (at c r.b) X' A' B') where
+  module _ (X' A' B' : Interval) (hull : Hull f e (at c r.x) A (at c r.b) X' A' B') where
     spans_x : Spans (Has (fits f e) c r r.x) X'
     spans_x =
         same_spans (λ y w. has_x y (g w.a) w.b (returned y w.a w.b w.solution))
@@ -155,7 +154,7 @@ module _ (f e : ℕ) (c : Box) (r : Record) (t : Three c r) (A : Interval) (g : 
         let p = solution_to w.values w.solution in
         let q = subst (λ (z : ℕ). Triple (w.values r.x) z (w.values r.b)) w.is p in
         (q.0, record { x = w.values r.x; b = w.values r.b; solution = q.1 }))
-        (h A') (back (HasABy (Makes f e) (at c r.x) A (at c r.b)) (λ y w. w.solution.a_in) A' hull.«as»)
+        (h A') (back (HasA f e (at c r.x) A (at c r.b)) (λ y w. w.solution.a_in) A' hull.«as»)
 
     spans_b : Spans (Has (fits f e) c r r.b) B'
     spans_b =
@@ -176,27 +175,27 @@ module _ (f e : ℕ) (c : Box) (r : Record) (t : Three c r) (A : Interval) (g : 
   names : Each (λ i. i < length c) (named r)
   names = subst (Each (λ i. i < length c)) (sym naming) (t.x_in, (t.a_in, (t.b_in, tt)))
 
-  triple_step : (t : Narrowing) → extended_narrowing f e (at c r.x) A (at c r.b) ≡ t → step (fits f e) c r ≡ step_of c r h t
+  triple_step : (t : Narrowing) → narrowing f e (at c r.x) A (at c r.b) ≡ t → step (fits f e) c r ≡ step_of c r h t
   triple_step none n =
-      sym (step_unique (fits f e) (fits_local f e) c r names unsolved (λ v s. narrowing_none (makes_decides f e) (at c r.x) A (at c r.b) n _ _ _ (solution_to v s).1))
+      sym (step_unique (fits f e) (fits_local f e) c r names unsolved (λ v s. narrowing_none f e (at c r.x) A (at c r.b) n _ _ _ (solution_to v s).1))
   triple_step (ends X' A' B') n =
-      sym (step_unique (fits f e) (fits_local f e) c r names (left (put c r X' (h A') B')) (leaves X' A' B' (narrowing_hull (makes_decides f e) (at c r.x) A (at c r.b) X' A' B' n)))
+      sym (step_unique (fits f e) (fits_local f e) c r names (left (put c r X' (h A') B')) (leaves X' A' B' (narrowing_hull f e (at c r.x) A (at c r.b) X' A' B' n)))
 
 -- ---- a sum: a's interval as it is
 module _ (f e : ℕ) (c : Box) (r : Record) (k : kind_of r.kind ≡ sum) (t : Three c r) where
   same_back : (P : ℕ → Type 0) → ((y : ℕ) → P y → In (at c r.a) y) → (I : Interval) → Spans P I → Spans (λ y. In (at c r.a) y × P y) I
   same_back P inside I s = same_spans (λ y p. (inside y p, p)) (λ y p. p.1) I s
 
-  pub sum_step : (t : Narrowing) → extended_narrowing f e (at c r.x) (at c r.a) (at c r.b) ≡ t → step (fits f e) c r ≡ step_of c r (λ I. I) t
+  pub sum_step : (t : Narrowing) → narrowing f e (at c r.x) (at c r.a) (at c r.b) ≡ t → step (fits f e) c r ≡ step_of c r (λ I. I) t
   sum_step =
       triple_step f e c r t (at c r.a) (λ y. y) (λ I. I) (ap (λ (l : Kind). named_by l r) k) (fits_as f e r sum k) (λ y i. i) (λ y i. i) (λ y i. refl) same_back
 
 -- ---- a diff: the sum with the mirror of a's interval
-module _ (f e : ℕ) (c : Box) (r : Record) (k : kind_of r.kind ≡ diff) (t : Three c r) (n : Numbers f e (at c r.a)) where
-  pub diff_step : (t : Narrowing) → extended_narrowing f e (at c r.x) (reflection f e (at c r.a)) (at c r.b) ≡ t → step (fits f e) c r ≡ step_of c r (reflection f e) t
+module _ (f e : ℕ) (c : Box) (r : Record) (k : kind_of r.kind ≡ diff) (t : Three c r) (bounded : Bounded f e (at c r.a)) where
+  pub diff_step : (t : Narrowing) → narrowing f e (at c r.x) (reflection f e (at c r.a)) (at c r.b) ≡ t → step (fits f e) c r ≡ step_of c r (reflection f e) t
   diff_step =
       triple_step f e c r t (reflection f e (at c r.a)) (mirrored f e) (reflection f e) (ap (λ (l : Kind). named_by l r) k) (fits_as f e r diff k)
-      (in_reflection f e (at c r.a)) (in_reflected f e (at c r.a) n) (mirror_twice f e (at c r.a) n) (mirror_spans f e (at c r.a) n)
+      (in_reflection f e (at c r.a)) (in_reflected f e (at c r.a) bounded) (mirror_twice f e (at c r.a) bounded) (mirror_spans f e (at c r.a) bounded)
 
 -- ---- a neg over two different cells of the box
 pub record Two (c : Box) (r : Record) : Type 0 where
@@ -205,7 +204,7 @@ pub record Two (c : Box) (r : Record) : Type 0 where
   pub a_x : r.a ≢ r.x
 
 -- x gets what it shares with the mirror of a, and a the mirror of that
-module _ (f e : ℕ) (c : Box) (r : Record) (k : kind_of r.kind ≡ neg) (t : Two c r) (nx : Numbers f e (at c r.x)) (na : Numbers f e (at c r.a)) where
+module _ (f e : ℕ) (c : Box) (r : Record) (k : kind_of r.kind ≡ neg) (t : Two c r) (x-bounded : Bounded f e (at c r.x)) (a-bounded : Bounded f e (at c r.a)) where
   abbrev S : Interval
   S = shared (at c r.x) (reflection f e (at c r.a))
 
@@ -230,8 +229,8 @@ module _ (f e : ℕ) (c : Box) (r : Record) (k : kind_of r.kind ≡ neg) (t : Tw
   opposed_to v s =
       let i = subst (Each (λ j. In (at c j) (v j))) naming s.inside in
       let z : v r.a ≡ mirrored f e (v r.x) = eqb-true _ _ (sym (fits_as f e r neg k v) ∙ s.fits) in
-      let m = in_twice f e (at c r.x) nx (v r.x) i.0 in
-      let n = in_twice f e (at c r.a) na (v r.a) i.1.0 in
+      let m = in_twice f e (at c r.x) x-bounded (v r.x) i.0 in
+      let n = in_twice f e (at c r.a) a-bounded (v r.a) i.1.0 in
       record {
         shared = record { low = omega (arith, i.0.low, i.1.0.high, z, m, n); high = omega (arith, i.0.high, i.1.0.low, z, m, n) };
         is = z;
@@ -239,8 +238,8 @@ module _ (f e : ℕ) (c : Box) (r : Record) (k : kind_of r.kind ≡ neg) (t : Tw
 
   opposed : (y : ℕ) → In S y → Solution (fits f e) c r (three r.x r.a y (mirrored f e y) 0)
   opposed y i =
-      let l = number_twice f e (at c r.a).low na.low in
-      let h = number_twice f e (at c r.a).high na.high in
+      let l = finite_twice f e (at c r.a).low a-bounded.low in
+      let h = finite_twice f e (at c r.a).high a-bounded.high in
       let x = at_x r.x r.a r.b y (mirrored f e y) 0 in
       let a = at_a r.x r.a r.b y (mirrored f e y) 0 t.a_x in
       record {

@@ -20,5 +20,3 @@ pub mod Started
 pub mod Finishing
 pub mod Calls
 pub mod PlannedCalls
-pub mod Agreeing
-pub mod FiniteSheets

@@ -1,9 +1,10 @@
--- The step of a sum or a diff with one cell in two places, from the narrowing of two intervals by a test; and of a record over one cell, from the values that fit it. Rests on ladder proofs/Pairing.
+-- The step of a sum or a diff with one cell in two places, from the narrowing of two intervals by a test; and of a record over one cell, of which only zero is left. Rests on ladder proofs/Pairing.
 use mathlib.Core.Path.{◌≡◌, refl, sym, ap, subst, ◌∙◌}
 use mathlib.Core.Logic.{◌≢◌}
 use mathlib.Core.Bool.{Bool, true, cond}
 use mathlib.Core.List.{[], ◌∷◌}
 use Prim.Native.Nat.{ℕ, ◌<◌}
+use native.Mathlib.Omega.{arith}
 use lib.Dec.{eqb}
 use lib.ListN.{length, length-set}
 use borrow.Author.Tests.{eq-eqb, ne_eqb}
@@ -152,30 +153,38 @@ module _ (f e : ℕ) (c : Box) (r : Record) (k : Kind) (kind : kind_of r.kind �
   pair_step none h = sym (step_unique (fits f e) (fits_local f e) c r names unsolved (λ v s. pairing_none pair_test (at c p) (at c q) h _ _ (solution_to v s)))
   pair_step (ends P Q) h = sym (step_unique (fits f e) (fits_local f e) c r names (left _) (leaves P Q (pairing_hull pair_test (at c p) (at c q) P Q h)))
 
--- ---- a record over one cell, which the values that pass a test fit
-module _ (f e : ℕ) (c : Box) (r : Record) (p : ℕ) (names : Each (λ i. i < length c) (named r))
+-- ---- a record over one cell that only the value z fits
+module _ (f e : ℕ) (c : Box) (r : Record) (p z : ℕ) (names : Each (λ i. i < length c) (named r))
     (each : (P : ℕ → Type 0) → P p → Each P (named r)) (first : (P : ℕ → Type 0) → Each P (named r) → P p)
-    (t : ℕ → Type 0) (to : (v : Values) → In (at c p) (v p) → fits f e r v ≡ true → t (v p)) (from : (y : ℕ) → In (at c p) y → t y → fits f e r (λ _. y) ≡ true) where
-  -- those inside its interval
-  abbrev pub Fitting : ℕ → Type 0
-  Fitting y = In (at c p) y × t y
+    (to : (v : Values) → In (at c p) (v p) → fits f e r v ≡ true → v p ≡ z) (from : fits f e r (λ _. z) ≡ true) where
+  abbrev Z : Interval
+  Z = record { low = z; high = z }
 
-  fitting_to : (v : Values) → Solution (fits f e) c r v → Fitting (v p)
-  fitting_to v s = let i = first (λ i. In (at c i) (v i)) s.inside in (i, to v i s.fits)
+  value : (v : Values) → Solution (fits f e) c r v → v p ≡ z
+  value v s = to v (first (λ i. In (at c i) (v i)) s.inside) s.fits
 
-  has : (y : ℕ) → Fitting y → Has (fits f e) c r p y
-  has y w = record { values = λ _. y; is = refl; solution = record { inside = each (λ j. In (at c j) y) w.0; fits = from y w.0 w.1 } }
+  has : In (at c p) z → Has (fits f e) c r p z
+  has i = record { values = λ _. z; is = refl; solution = record { inside = each (λ j. In (at c j) z) i; fits = from } }
 
-  pub one_step : (I : Interval) → Spans Fitting I → (new : Box) → length new ≡ length c → at new p ≡ I → ((j : ℕ) → j ≢ p → at new j ≡ at c j) → step (fits f e) c r ≡ left new
-  one_step I s new l g rest =
+  spans : In (at c p) z → Spans (Has (fits f e) c r p) Z
+  spans i = record {
+    low = has i;
+    high = has i;
+    all = λ y w. let h = sym w.is ∙ value w.values w.solution in record { low = omega arith; high = omega arith };
+  }
+
+  pub one_step : In (at c p) z → (new : Box) → length new ≡ length c → at new p ≡ Z → ((j : ℕ) → j ≢ p → at new j ≡ at c j) → step (fits f e) c r ≡ left new
+  one_step i new l g rest =
       sym
       (step_unique (fits f e) (fits_local f e) c r names (left new)
       (record {
         cells = l;
-        spans = each (λ j. Spans (Has (fits f e) c r j) (at new j))
-            (subst (Spans (Has (fits f e) c r p)) (sym g) (same_spans has (λ y w. subst Fitting w.is (fitting_to w.values w.solution)) I s));
+        spans = each (λ j. Spans (Has (fits f e) c r j) (at new j)) (subst (Spans (Has (fits f e) c r p)) (sym g) (spans i));
         others = λ j m. rest j (first (λ i. j ≢ i) m);
       }))
 
-  pub one_none : ((y : ℕ) → Fitting y → ⊥) → step (fits f e) c r ≡ unsolved
-  one_none n = sym (step_unique (fits f e) (fits_local f e) c r names unsolved (λ v s. n (v p) (fitting_to v s)))
+  pub one_none : (In (at c p) z → ⊥) → step (fits f e) c r ≡ unsolved
+  one_none n =
+      sym
+      (step_unique (fits f e) (fits_local f e) c r names unsolved
+      (λ v s. n (subst (In (at c p)) (value v s) (first (λ i. In (at c i) (v i)) s.inside))))

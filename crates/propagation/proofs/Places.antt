@@ -7,7 +7,7 @@ use native.Mathlib.Omega.{arith}
 use lib.ListN.{length, get_or, set, take, replicate, length-map, get_or-append}
 use lib.Seq.{take_at, set-append_left, ext_get_or}
 use Rattle.ladder.specs.Solution as S
-use Rattle.ladder.specs.Solution.{Numbers}
+use Rattle.ladder.specs.Solution.{Bounded}
 use Rattle.arith.specs.declared.interval.Interval.{Interval}
 use Rattle.arith.proofs.Valid.{written_span}
 use Rattle.sheet.specs.Cells.{fraction_of, exponent_of, ordinals_of, patterns_of, box_of, cells_of}
@@ -22,8 +22,8 @@ set_under f [] i v = refl
 set_under f (x ∷ xs) zero v = refl
 set_under {B = B} f (x ∷ xs) (suc i) v = ap (λ (t : List B). f x ∷ t) (set_under f xs i v)
 
-pub numbers : {f e : ℕ} {I : S.Interval} → Proper f e I → Numbers f e I
-numbers p = record { low = p.low; high = p.high }
+pub bounded : {f e : ℕ} {I : S.Interval} → Proper f e I → Bounded f e I
+bounded p = record { low = p.low; high = p.high }
 
 module _ (width n : ℕ) (box : Box) (size : length box ≡ n) where
   long : length (cells_of width box) ≡ n
@@ -62,7 +62,7 @@ module _ (width n : ℕ) (box : Box) (is : IsBox (fraction_of width) (exponent_o
           let h : i < length (cells_of width box) = rw (length-map box (patterns_of width)) k in
           get_d_under (ordinals_of width) (cells_of width box) i no_cell _ h
           ∙ ap (ordinals_of width) (get_d_under (patterns_of width) box i (record { low = 0; high = 0 }) no_cell k)
-          ∙ written_span width (at box i) (numbers (is.proper i (omega arith)))
+          ∙ written_span width (at box i) (bounded (is.proper i (omega arith)))
 
   -- and in a sheet's places
   pub box_found : box_in width n (places width n box) ≡ box

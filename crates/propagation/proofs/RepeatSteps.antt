@@ -1,13 +1,13 @@
--- A step on cells of a record with one cell in two places or in all: what the code answers is the step on the box. Rests on ladder proofs/Coincidences and Differences.
+-- A step on cells of a record with one cell in two places or in all: what the code answers is the step on the box. Rests on ladder proofs/Alike and Differences.
 use mathlib.Core.Path.{◌≡◌, refl, sym, ap, ap₂, subst, ◌∙◌}
 use mathlib.Core.Logic.{◌≢◌}
 use mathlib.Core.Bool.{Bool, true, false, cond}
 use mathlib.Core.List.{List, [], ◌∷◌}
-use Prim.Native.Nat.{ℕ, ◌^◌, ◌<◌, ◌≤◌}
+use Prim.Native.Nat.{ℕ, ◌<◌, ◌≤◌}
 use native.Mathlib.Nat.{le_refl}
 use native.Mathlib.Omega.{arith}
 use native.Mathlib.Decide.{ℕ_discrete}
-use lib.Dec.{T, leb}
+use lib.Dec.{leb}
 use lib.ListN.{length, set, length-set}
 use lib.Seq.{set-get_or, get_or-set_same, get_or-set_other}
 use borrow.Author.Tests.{leb-true, leb-false, eq-eqb, ne_eqb, eqb-true, le-ltb}
@@ -16,29 +16,23 @@ use Rattle.ladder.specs.Ordinal.{mirrored}
 use Rattle.ladder.specs.Solution as L
 use Rattle.ladder.specs.Solution.{In}
 use Rattle.ladder.specs.Search.{reflection}
-use Rattle.ladder.specs.Narrowing.{Extent, empty, over, extent_in, Spans}
-use Rattle.ladder.specs.Extended.{makes}
-use Rattle.ladder.specs.Pairing.{Pairing, none, ends, pairing}
-use Rattle.ladder.proofs.Extents.{IsExtent, extent_in_lem}
+use Rattle.ladder.specs.Pairing.{Pairing, none, ends, pairing, doubles, absorbs}
 use Rattle.ladder.proofs.Reflection.{in_twice}
-use Rattle.ladder.proofs.Solutions.{number_in, mirror_numbers}
+use Rattle.ladder.proofs.Solutions.{finite_in, mirror_bounded}
 use Rattle.ladder.proofs.Pairing.{pairing_hull, pair_within}
-use Rattle.ladder.proofs.Hull.{within_numbers}
-use Rattle.ladder.proofs.Differences.{mirrored_none, mirrored_ends_lem}
-use Rattle.ladder.proofs.Coincidences.{rests_other, difference_still, zero_still}
+use Rattle.ladder.proofs.Hull.{within_bounded}
+use Rattle.ladder.proofs.Differences.{opposed_none, opposed_ends}
+use Rattle.ladder.proofs.Alike.{double_self, difference_self, absorbs_other, difference_pairing, zero_none, zero_ends}
 use Rattle.arith.specs.declared.interval.Interval.{Interval}
 use Rattle.arith.specs.declared.interval.Cut.{Cut}
 use Rattle.arith.specs.declared.interval.Cut.TheVariants.{Shared, Empty}
-use Rattle.arith.specs.declared.format.Format.{Format}
-use Rattle.arith.specs.declared.interval.Image.{Image}
-use Rattle.arith.specs.declared.narrow.Narrowed.TheVariants.{Ends}
 use Rattle.arith.specs.declared.repeated.Paired.{Paired}
 use Rattle.arith.specs.Formats.{format_of}
-use Rattle.arith.specs.Intervals.{mirrored_ends, cut_of}
+use Rattle.arith.specs.Intervals.{mirrored_ends, cut_of, span}
 use Rattle.arith.specs.Repeats as R
-use Rattle.arith.specs.Repeats.{doubling, absorbing, cancelling, halving, pair_of, still_of}
-use Rattle.arith.proofs.Formats.{sound, wide}
-use Rattle.arith.proofs.Valid.{written_span, shared, valid_pair, valid_still}
+use Rattle.arith.specs.Repeats.{doubling, absorbing, pair_of}
+use Rattle.arith.proofs.Formats.{sound}
+use Rattle.arith.proofs.Valid.{written_span, shared, valid_pair}
 use Rattle.sheet.specs.Members.{Each}
 use Rattle.sheet.specs.Records.{Kind, sum, diff, neg, kind_of, named_by, named, Values, fits_by, fits}
 use Rattle.sheet.specs.Cells.{patterns_of}
@@ -50,14 +44,13 @@ use Rattle.propagation.specs.declared.step.Alike.{Alike}
 use Rattle.propagation.specs.declared.step.Alike.TheVariants.{XA, XB, AB, All}
 use Rattle.propagation.specs.declared.step.Cells.{Cells}
 use Rattle.propagation.specs.declared.step.Cells.TheVariants.{Apart, Repeated}
-use Rattle.propagation.specs.RecordSteps.{zero_by, zero_answer, still_by, turn_other, two_answer, pair_in_roles, both_by, cells_of}
+use Rattle.propagation.specs.RecordSteps.{zero_by, zero_answer, turn_other, two_answer, pair_in_roles, both_by, cells_of}
 use Rattle.propagation.specs.Runs.{Step, unsolved, left, step}
 use Rattle.propagation.proofs.Fitting.{fits_as}
-use Rattle.propagation.proofs.Searching.{true_holds, holds_true}
 use Rattle.propagation.proofs.Mirroring.{mirror_proper, mirror_written, cut_written}
 use Rattle.propagation.proofs.KindSteps.{put, put_x, put_other}
 use Rattle.propagation.proofs.PairSteps.{one, other, pair_step, one_step, one_none}
-use Rattle.propagation.proofs.Places.{numbers}
+use Rattle.propagation.proofs.Places.{bounded}
 use Rattle.propagation.proofs.Settings.{Setting, f, e, X, A, B, x_proper, a_proper, b_proper, in_box, cells, x_cell, a_cell, b_cell, x_is, a_is, b_is, valid, MadeBy, pair_places, put_places}
 
 -- ---- which of three numbers are one
@@ -85,27 +78,20 @@ module _ (g : Setting) where
   abbrev zero : ℕ
   zero = O.sign (f g) (e g)
 
-  -- x ⊕ a = x
-  abbrev rests : ℕ → ℕ → Bool
-  rests x a = makes (f g) (e g) x a x
-
   some : 1 ≤ f g
   some = (sound g.width).some
 
   names : Each (λ i. i < length g.box) (named g.r)
   names = each_map (λ i. i < g.n) (λ i. i < length g.box) (named g.r) (λ i l. in_box g l) g.names.cells
 
-  -- infinity's place is a binade or more above zero
-  broad : 2 ^ f g ≤ O.infinity (f g) (e g)
-  broad = wide (format_of g.width) (sound g.width)
-
   -- ---- the narrowing of two intervals in patterns
   pair_is :
-      (t : Format → ℕ → ℕ → Bool) (I J : L.Interval) → Proper (f g) (e g) I → Proper (f g) (e g) J →
-      pair_of (R.by t) g.width (patterns_of g.width I) (patterns_of g.width J) ≡ R.pair_answer (format_of g.width) (pairing (t (format_of g.width)) I J)
+      (t : ℕ → ℕ → ℕ → ℕ → Bool) (I J : L.Interval) → Proper (f g) (e g) I → Proper (f g) (e g) J →
+      pair_of (λ F P Q. pairing (t F.fraction F.exponent) (span P) (span Q)) g.width (patterns_of g.width I) (patterns_of g.width J)
+      ≡ R.pair_answer (format_of g.width) (pairing (t (f g) (e g)) I J)
   pair_is t I J p q =
-      valid_pair (R.by t) g.width (patterns_of g.width I) (patterns_of g.width J) (valid g I p) (valid g J q)
-      ∙ rw (written_span g.width I (numbers p), written_span g.width J (numbers q))
+      valid_pair (λ F P Q. pairing (t F.fraction F.exponent) (span P) (span Q)) g.width (patterns_of g.width I) (patterns_of g.width J) (valid g I p) (valid g J q)
+      ∙ rw (written_span g.width I (bounded p), written_span g.width J (bounded q))
 
   -- the step that it tells, with its two intervals in the record's cells
   abbrev step_with : (L.Interval → L.Interval → Box) → Pairing → Step
@@ -116,8 +102,8 @@ module _ (g : Setting) where
   abbrev Z : L.Interval
   Z = record { low = zero; high = zero }
 
-  zero_number : O.Number (f g) (e g) zero
-  zero_number = record { low = omega arith; high = omega arith }
+  zero_finite : O.Finite (f g) (e g) zero
+  zero_finite = let p = (x_proper g).low in record { low = omega (arith, p.low, p.high); high = omega (arith, p.low, p.high) }
 
   zero_written : patterns_of g.width Z ≡ no_cell
   unfolding O.pattern
@@ -134,7 +120,7 @@ module _ (g : Setting) where
       subst (ZeroCut I)
       (sym
       (ap (cut_of g.width (patterns_of g.width I)) (sym zero_written)
-      ∙ cut_written g.width g.known I Z p (record { low = zero_number; high = zero_number; order = le_refl zero })))
+      ∙ cut_written g.width g.known I Z p (record { low = zero_finite; high = zero_finite; order = le_refl zero })))
       (go (leb (shared I Z).low (shared I Z).high) refl)
     where
       go : (t : Bool) → leb (shared I Z).low (shared I Z).high ≡ t → ZeroCut I (cond t (Shared (patterns_of g.width (shared I Z))) Empty)
@@ -183,36 +169,29 @@ module _ (g : Setting) where
       made_ab none h = step_ab none h
       made_ab (ends P Q) h = (put g.box g.r Q P P, step_ab (ends P Q) h, put_places g Q P P)
 
-    -- all three are one, which the values that pass a test fit
-    module _ (a_x : g.r.a ≡ g.r.x) (b_x : g.r.b ≡ g.r.x) where
+    -- all three are one, which only zero fits
+    module _ (a_x : g.r.a ≡ g.r.x) (b_x : g.r.b ≡ g.r.x)
+        (to : (u : ℕ) → O.Finite (f g) (e g) u → fits_by (f g) (e g) k u u u ≡ true → u ≡ zero) (from : fits_by (f g) (e g) k zero zero zero ≡ true) where
       each : (P : ℕ → Type 0) → P g.r.x → Each P (named g.r)
       each P m = subst (Each P) (sym naming) (m, (subst P (sym a_x) m, (subst P (sym b_x) m, tt)))
 
       first : (P : ℕ → Type 0) → Each P (named g.r) → P g.r.x
       first P m = (subst (Each P) naming m).0
 
-      value : (v : Values) → fits (f g) (e g) g.r v ≡ true → T (fits_by (f g) (e g) k (v g.r.x) (v g.r.x) (v g.r.x))
-      value v h = true_holds _ (ap₂ (fits_by (f g) (e g) k (v g.r.x)) (ap v (sym a_x)) (ap v (sym b_x)) ∙ sym (fits_as (f g) (e g) g.r k kind v) ∙ h)
+      value : (v : Values) → In (X g) (v g.r.x) → fits (f g) (e g) g.r v ≡ true → v g.r.x ≡ zero
+      value v i h =
+          to (v g.r.x) (finite_in (f g) (e g) (X g) (bounded (x_proper g)) (v g.r.x) i)
+          (ap₂ (fits_by (f g) (e g) k (v g.r.x)) (ap v (sym a_x)) (ap v (sym b_x)) ∙ sym (fits_as (f g) (e g) g.r k kind v) ∙ h)
 
-      back : (y : ℕ) → T (fits_by (f g) (e g) k y y y) → fits (f g) (e g) g.r (λ _. y) ≡ true
-      back y h = fits_as (f g) (e g) g.r k kind (λ _. y) ∙ holds_true _ h
-
-      module _ (t : ℕ → Type 0) (to : (v : Values) → In (X g) (v g.r.x) → fits (f g) (e g) g.r v ≡ true → t (v g.r.x)) (from : (y : ℕ) → In (X g) y → t y → fits (f g) (e g) g.r (λ _. y) ≡ true) where
-        made_all : (I : L.Interval) → Spans (λ y. In (X g) y × t y) I → MadeBy g (Ends (patterns_of g.width I) (patterns_of g.width I) (patterns_of g.width I))
-        made_all I s = (
-          put g.box g.r I I I,
-          one_step (f g) (e g) g.box g.r g.r.x names each first t to from I s
-              (put g.box g.r I I I) (simp length-set) (put_x g.box g.r (in_box g (first_in g.n g.r g.names)) I I I)
-              (λ j n. put_other g.box g.r I I I j n (λ h. n (h ∙ a_x)) (λ h. n (h ∙ b_x))),
-          put_places g I I I,
-        )
-
-        none_all : ((y : ℕ) → In (X g) y × t y → ⊥) → step (fits (f g) (e g)) g.box g.r ≡ unsolved
-        none_all n = one_none (f g) (e g) g.box g.r g.r.x names each first t to from n
-
-  -- zero alone, where it is inside
-  zero_spans : {I : L.Interval} → In I zero → Spans (λ y. In I y × (y ≡ zero)) Z
-  zero_spans i = record { low = (i, refl); high = (i, refl); all = λ y w. record { low = omega (arith, w.1); high = omega (arith, w.1) } }
+      made_all : (t : Cut) → ZeroCut (X g) t → MadeBy g (pair_in_roles All (zero_by (x_cell g) t))
+      made_all t (there i) = (
+        put g.box g.r Z Z Z,
+        one_step (f g) (e g) g.box g.r g.r.x zero names each first value (fits_as (f g) (e g) g.r k kind (λ _. zero) ∙ from) i
+            (put g.box g.r Z Z Z) (simp length-set) (put_x g.box g.r (in_box g (first_in g.n g.r g.names)) Z Z Z)
+            (λ j n. put_other g.box g.r Z Z Z j n (λ h. n (h ∙ a_x)) (λ h. n (h ∙ b_x))),
+        ap (λ (c : Interval). put (cells g) g.r c c c) (sym zero_written) ∙ put_places g Z Z Z,
+      )
+      made_all t (not_there n) = one_none (f g) (e g) g.box g.r g.r.x zero names each first value (fits_as (f g) (e g) g.r k kind (λ _. zero) ∙ from) n
 
   -- ---- by kind
   sum_named : kind_of g.r.kind ≡ sum → named g.r ≡ g.r.x ∷ g.r.a ∷ g.r.b ∷ []
@@ -222,85 +201,69 @@ module _ (g : Setting) where
   diff_named k = ap (λ (l : Kind). named_by l g.r) k
 
   -- x ⊕ a = x: as it is
-  by_rest : (k : kind_of g.r.kind ≡ sum) → g.r.b ≡ g.r.x → g.r.a ≢ g.r.x → (n : Pairing) → pairing rests (X g) (A g) ≡ n →
+  by_rest : (k : kind_of g.r.kind ≡ sum) → g.r.b ≡ g.r.x → g.r.a ≢ g.r.x → (n : Pairing) → pairing (absorbs (f g) (e g)) (X g) (A g) ≡ n →
       MadeBy g (pair_in_roles XB (turn_other g.width 0 (R.pair_answer (format_of g.width) n)))
   by_rest k p q none h = step_xb sum k (sum_named k) p q none h
   by_rest k p q (ends P Q) h = (put g.box g.r P Q P, step_xb sum k (sum_named k) p q (ends P Q) h, put_places g P Q P)
 
-  -- x ⊕ x = x: what is its own double
-  by_still :
-      (k : kind_of g.r.kind ≡ sum) → g.r.a ≡ g.r.x → g.r.b ≡ g.r.x → (s : Extent) → IsExtent (λ y. In (X g) y × T (makes (f g) (e g) y y y)) s →
-      MadeBy g (pair_in_roles All (still_by (R.still_answer (format_of g.width) s)))
-  by_still k p q empty n = none_all sum k (sum_named k) p q (λ y. T (makes (f g) (e g) y y y)) (λ v i h. value sum k (sum_named k) p q v h) (λ y i h. back sum k (sum_named k) p q y h) n
-  by_still k p q (over I) s = made_all sum k (sum_named k) p q (λ y. T (makes (f g) (e g) y y y)) (λ v i h. value sum k (sum_named k) p q v h) (λ y i h. back sum k (sum_named k) p q y h) I s
-
-  still_is : still_of g.width (x_cell g) ≡ R.still_answer (format_of g.width) (extent_in (X g) (λ y. makes (f g) (e g) y y y))
-  still_is =
-      ap (still_of g.width) (x_is g) ∙ valid_still g.width (patterns_of g.width (X g)) (valid g (X g) (x_proper g))
-      ∙ ap (λ (I : L.Interval). R.still_answer (format_of g.width) (extent_in I (λ y. makes (f g) (e g) y y y))) (written_span g.width (X g) (numbers (x_proper g)))
-
   pub sum_repeated : kind_of g.r.kind ≡ sum → (w : Alike) → AlikeIn g.r.x g.r.a g.r.b w → MadeBy g (pair_in_roles w (two_answer g.width 0 w (x_cell g) (a_cell g) (b_cell g)))
   sum_repeated k XA (x_a p q) =
       subst (λ (t : Paired). MadeBy g (pair_in_roles XA t))
-      (sym ((λ i. pair_of doubling g.width (x_is g i) (b_is g i)) ∙ pair_is _ (X g) (B g) (x_proper g) (b_proper g)))
-      (made_xa sum k (sum_named k) p q _ refl)
+      (sym ((λ i. pair_of doubling g.width (x_is g i) (b_is g i)) ∙ pair_is doubles (X g) (B g) (x_proper g) (b_proper g)))
+      (made_xa sum k (sum_named k) p q (pairing (doubles (f g) (e g)) (X g) (B g)) refl)
   sum_repeated k XB (x_b p q) =
       subst (λ (t : Paired). MadeBy g (pair_in_roles XB (turn_other g.width 0 t)))
-      (sym ((λ i. pair_of absorbing g.width (x_is g i) (a_is g i)) ∙ pair_is _ (X g) (A g) (x_proper g) (a_proper g)))
-      (by_rest k p q _ refl)
+      (sym ((λ i. pair_of absorbing g.width (x_is g i) (a_is g i)) ∙ pair_is absorbs (X g) (A g) (x_proper g) (a_proper g)))
+      (by_rest k p q (pairing (absorbs (f g) (e g)) (X g) (A g)) refl)
   sum_repeated k AB (a_b p q) =
       subst (λ (t : Paired). MadeBy g (pair_in_roles AB t))
-      (sym ((λ i. pair_of absorbing g.width (a_is g i) (x_is g i)) ∙ pair_is _ (A g) (X g) (a_proper g) (x_proper g)))
-      (made_ab sum k (sum_named k) p q _ (rests_other (f g) (e g) some broad (A g) (X g) (numbers (a_proper g)) (numbers (x_proper g))))
+      (sym ((λ i. pair_of absorbing g.width (a_is g i) (x_is g i)) ∙ pair_is absorbs (A g) (X g) (a_proper g) (x_proper g)))
+      (made_ab sum k (sum_named k) p q (pairing (absorbs (f g) (e g)) (A g) (X g)) (absorbs_other (f g) (e g) some (A g) (X g)))
   sum_repeated k All (all p q) =
-      subst (λ (t : Image). MadeBy g (pair_in_roles All (still_by t))) (sym still_is)
-      (by_still k p q (extent_in (X g) (λ y. makes (f g) (e g) y y y)) (extent_in_lem (X g) (λ y. makes (f g) (e g) y y y) (λ y. In (X g) y × T (makes (f g) (e g) y y y)) (λ y i h. (i, h)) (λ y w. w)))
+      made_all sum k (sum_named k) p q
+      (λ u n h. (double_self (f g) (e g) some u n).0 (eqb-true _ _ h)) (eq-eqb _ _ ((double_self (f g) (e g) some zero zero_finite).1 refl))
+      (cut_of g.width (x_cell g) no_cell) (subst (λ (I : Interval). ZeroCut (X g) (cut_of g.width I no_cell)) (sym (x_is g)) (zero_cut (X g) (x_proper g)))
 
-  -- x ⊖ x = x: zero alone
-  module _ (k : kind_of g.r.kind ≡ diff) (p : g.r.a ≡ g.r.x) (q : g.r.b ≡ g.r.x) where
-    zero_to : (v : Values) → In (X g) (v g.r.x) → fits (f g) (e g) g.r v ≡ true → v g.r.x ≡ zero
-    zero_to v i h = difference_still (f g) (e g) some broad (v g.r.x) (number_in (f g) (e g) (X g) (numbers (x_proper g)) (v g.r.x) i) (value diff k (diff_named k) p q v h)
-
-    zero_from : (y : ℕ) → In (X g) y → y ≡ zero → fits (f g) (e g) g.r (λ _. y) ≡ true
-    zero_from y i h = back diff k (diff_named k) p q y (subst (λ (z : ℕ). T (fits_by (f g) (e g) diff z z z)) (sym h) (zero_still (f g) (e g) some broad))
-
-    by_zero : (t : Cut) → ZeroCut (X g) t → MadeBy g (pair_in_roles All (zero_by t))
-    by_zero t (there i) =
-        subst (λ (c : Interval). MadeBy g (Ends c c c)) zero_written
-        (made_all diff k (diff_named k) p q (λ y. y ≡ zero) zero_to zero_from Z (zero_spans i))
-    by_zero t (not_there n) = none_all diff k (diff_named k) p q (λ y. y ≡ zero) zero_to zero_from (λ y w. n (subst (In (X g)) w.1 w.0))
+  -- x ⊖ x = b: b is zero
+  by_zero : (k : kind_of g.r.kind ≡ diff) → g.r.a ≡ g.r.x → g.r.b ≢ g.r.x → (t : Cut) → ZeroCut (B g) t → MadeBy g (pair_in_roles XA (zero_by (x_cell g) t))
+  by_zero k p q t (there i) = (
+    put g.box g.r (X g) (X g) Z,
+    step_xa diff k (diff_named k) p q (ends (X g) Z) (zero_ends (f g) (e g) some (X g) (B g) (bounded (x_proper g)) (x_proper g).order i),
+    ap₂ (λ (I J : Interval). put (cells g) g.r I I J) (x_is g) (sym zero_written) ∙ put_places g (X g) (X g) Z,
+  )
+  by_zero k p q t (not_there n) = step_xa diff k (diff_named k) p q none (zero_none (f g) (e g) some (X g) (B g) (bounded (x_proper g)) n)
 
   -- x ⊖ a = x: with the mirror of a
-  by_mirrored : (k : kind_of g.r.kind ≡ diff) → g.r.b ≡ g.r.x → g.r.a ≢ g.r.x → (n : Pairing) → pairing rests (X g) (reflection (f g) (e g) (A g)) ≡ n →
+  by_mirrored : (k : kind_of g.r.kind ≡ diff) → g.r.b ≡ g.r.x → g.r.a ≢ g.r.x → (n : Pairing) → pairing (absorbs (f g) (e g)) (X g) (reflection (f g) (e g) (A g)) ≡ n →
       MadeBy g (pair_in_roles XB (turn_other g.width 1 (R.pair_answer (format_of g.width) n)))
-  by_mirrored k p q none h = step_xb diff k (diff_named k) p q none (mirrored_none (f g) (e g) rests (X g) (A g) (numbers (a_proper g)) h)
+  by_mirrored k p q none h = step_xb diff k (diff_named k) p q none (opposed_none (f g) (e g) (absorbs (f g) (e g)) (X g) (A g) (bounded (a_proper g)) h)
   by_mirrored k p q (ends P Q) h =
       let M = reflection (f g) (e g) (A g) in
-      let w = (pair_within rests (X g) M P Q (pairing_hull rests (X g) M P Q h)).1 in
-      let b = within_numbers (mirror_numbers (f g) (e g) (A g) (numbers (a_proper g))) w in
+      let w = (pair_within (absorbs (f g) (e g)) (X g) M P Q (pairing_hull (absorbs (f g) (e g)) (X g) M P Q h)).1 in
+      let b = within_bounded (mirror_bounded (f g) (e g) (A g) (bounded (a_proper g))) w in
       let m : Proper (f g) (e g) Q = record { low = b.low; high = b.high; order = w.order } in (
         put g.box g.r P (reflection (f g) (e g) Q) P,
-        step_xb diff k (diff_named k) p q (ends P (reflection (f g) (e g) Q)) (mirrored_ends_lem (f g) (e g) rests (X g) (A g) (numbers (a_proper g)) P Q h),
+        step_xb diff k (diff_named k) p q (ends P (reflection (f g) (e g) Q)) (opposed_ends (f g) (e g) (absorbs (f g) (e g)) (X g) (A g) (bounded (a_proper g)) P Q h),
         ap (λ (I : Interval). put (cells g) g.r (patterns_of g.width P) I (patterns_of g.width P)) (mirror_written g.width g.known Q m)
             ∙ put_places g P (reflection (f g) (e g) Q) P,
       )
 
   pub diff_repeated : kind_of g.r.kind ≡ diff → (w : Alike) → AlikeIn g.r.x g.r.a g.r.b w → MadeBy g (pair_in_roles w (two_answer g.width 1 w (x_cell g) (a_cell g) (b_cell g)))
   diff_repeated k XA (x_a p q) =
-      subst (λ (t : Paired). MadeBy g (pair_in_roles XA t))
-      (sym ((λ i. pair_of cancelling g.width (x_is g i) (b_is g i)) ∙ pair_is _ (X g) (B g) (x_proper g) (b_proper g)))
-      (made_xa diff k (diff_named k) p q _ refl)
+      by_zero k p q (cut_of g.width (b_cell g) no_cell) (subst (λ (I : Interval). ZeroCut (B g) (cut_of g.width I no_cell)) (sym (b_is g)) (zero_cut (B g) (b_proper g)))
   diff_repeated k XB (x_b p q) =
       let m = ap (mirrored_ends (format_of g.width)) (a_is g) ∙ mirror_written g.width g.known (A g) (a_proper g) in
       subst (λ (t : Paired). MadeBy g (pair_in_roles XB (turn_other g.width 1 t)))
-      (sym ((λ i. pair_of absorbing g.width (x_is g i) (m i)) ∙ pair_is _ (X g) (reflection (f g) (e g) (A g)) (x_proper g) (mirror_proper (f g) (e g) (A g) (a_proper g))))
-      (by_mirrored k p q _ refl)
+      (sym ((λ i. pair_of absorbing g.width (x_is g i) (m i)) ∙ pair_is absorbs (X g) (reflection (f g) (e g) (A g)) (x_proper g) (mirror_proper (f g) (e g) (A g) (a_proper g))))
+      (by_mirrored k p q (pairing (absorbs (f g) (e g)) (X g) (reflection (f g) (e g) (A g))) refl)
   diff_repeated k AB (a_b p q) =
       subst (λ (t : Paired). MadeBy g (pair_in_roles AB t))
-      (sym ((λ i. pair_of halving g.width (a_is g i) (x_is g i)) ∙ pair_is _ (A g) (X g) (a_proper g) (x_proper g)))
-      (made_ab diff k (diff_named k) p q _ refl)
+      (sym ((λ i. pair_of doubling g.width (a_is g i) (x_is g i)) ∙ pair_is doubles (A g) (X g) (a_proper g) (x_proper g)))
+      (made_ab diff k (diff_named k) p q (pairing (doubles (f g) (e g)) (A g) (X g)) (difference_pairing (f g) (e g) some (A g) (X g) (bounded (a_proper g)) (bounded (x_proper g))))
   diff_repeated k All (all p q) =
-      by_zero k p q (cut_of g.width (x_cell g) no_cell) (subst (λ (I : Interval). ZeroCut (X g) (cut_of g.width I no_cell)) (sym (x_is g)) (zero_cut (X g) (x_proper g)))
+      made_all diff k (diff_named k) p q
+      (λ u n h. sym (eqb-true _ _ h) ∙ difference_self (f g) (e g) some u n) (eq-eqb _ _ (difference_self (f g) (e g) some zero zero_finite))
+      (cut_of g.width (x_cell g) no_cell) (subst (λ (I : Interval). ZeroCut (X g) (cut_of g.width I no_cell)) (sym (x_is g)) (zero_cut (X g) (x_proper g)))
 
   -- ---- a neg over one cell: the third cell is written back as it came
   module _ (k : kind_of g.r.kind ≡ neg) (same : g.r.a ≡ g.r.x) where
@@ -316,25 +279,25 @@ module _ (g : Setting) where
     neg_value : (v : Values) → In (X g) (v g.r.x) → fits (f g) (e g) g.r v ≡ true → v g.r.x ≡ zero
     neg_value v i h =
         let m : v g.r.a ≡ mirrored (f g) (e g) (v g.r.x) = eqb-true _ _ (sym (fits_as (f g) (e g) g.r neg k v) ∙ h) in
-        omega (arith, ap v same, m, in_twice (f g) (e g) (X g) (numbers (x_proper g)) (v g.r.x) i)
+        omega (arith, ap v same, m, in_twice (f g) (e g) (X g) (bounded (x_proper g)) (v g.r.x) i)
 
-    neg_fits : (y : ℕ) → In (X g) y → y ≡ zero → fits (f g) (e g) g.r (λ _. y) ≡ true
-    neg_fits y i h =
-        let m : y ≡ mirrored (f g) (e g) y = omega (arith, h) in
-        fits_as (f g) (e g) g.r neg k (λ _. y) ∙ eq-eqb _ _ m
+    neg_fits : fits (f g) (e g) g.r (λ _. zero) ≡ true
+    neg_fits =
+        let m : zero ≡ mirrored (f g) (e g) zero = omega arith in
+        fits_as (f g) (e g) g.r neg k (λ _. zero) ∙ eq-eqb _ _ m
 
-    by_both : (t : Cut) → ZeroCut (X g) t → MadeBy g (both_by (b_cell g) (zero_by t))
+    by_both : (t : Cut) → ZeroCut (X g) t → MadeBy g (both_by (b_cell g) (zero_by (x_cell g) t))
     by_both t (there i) =
         let new = set (set g.box g.r.a Z) g.r.x Z in (
           new,
-          one_step (f g) (e g) g.box g.r g.r.x names neg_each neg_first (λ y. y ≡ zero) neg_value neg_fits Z (zero_spans i) new (simp length-set)
+          one_step (f g) (e g) g.box g.r g.r.x zero names neg_each neg_first neg_value neg_fits i new (simp length-set)
               (get_or-set_same (set g.box g.r.a Z) g.r.x Z _ (simp length-set (in_box g (first_in g.n g.r g.names))))
               (λ j n. get_or-set_other (set g.box g.r.a Z) g.r.x j Z _ n ∙ get_or-set_other g.box g.r.a j Z _ (λ h. n (h ∙ same))),
           ap (λ (l : List Interval). set (set l g.r.a no_cell) g.r.x no_cell) (set-get_or (cells g) g.r.b no_cell)
               ∙ ap (λ (I : Interval). set (set (cells g) g.r.a I) g.r.x I) (sym zero_written)
               ∙ pair_places g g.box g.is.cells Z Z,
         )
-    by_both t (not_there n) = one_none (f g) (e g) g.box g.r g.r.x names neg_each neg_first (λ y. y ≡ zero) neg_value neg_fits (λ y w. n (subst (In (X g)) w.1 w.0))
+    by_both t (not_there n) = one_none (f g) (e g) g.box g.r g.r.x zero names neg_each neg_first neg_value neg_fits n
 
-    pub neg_repeated : MadeBy g (both_by (b_cell g) (zero_answer g.width (x_cell g)))
+    pub neg_repeated : MadeBy g (both_by (b_cell g) (zero_answer g.width (x_cell g) (x_cell g)))
     neg_repeated = by_both (cut_of g.width (x_cell g) no_cell) (subst (λ (I : Interval). ZeroCut (X g) (cut_of g.width I no_cell)) (sym (x_is g)) (zero_cut (X g) (x_proper g)))

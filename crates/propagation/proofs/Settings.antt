@@ -19,7 +19,7 @@ use Rattle.sheet.specs.Boxes.{Box, at, Proper, IsBox}
 use Rattle.sheet.proofs.Records.{first_in, second_in, third_in}
 use Rattle.propagation.specs.Runs.{unsolved, left, step}
 use Rattle.propagation.proofs.KindSteps.{put}
-use Rattle.propagation.proofs.Places.{numbers, place_at, place_set}
+use Rattle.propagation.proofs.Places.{bounded, place_at, place_set}
 
 -- a record over the n cells of a box, at a known width
 pub record Setting : Type 0 where
@@ -83,7 +83,7 @@ module _ (g : Setting) where
   b_is = place_at g.width g.n g.box g.is.cells g.r.b (third_in g.n g.r g.names)
 
   pub valid : (I : L.Interval) → Proper f e I → Valid g.width (patterns_of g.width I)
-  valid I p = written_valid g.width I (numbers p) g.known p.order
+  valid I p = written_valid g.width I (bounded p) g.known p.order
 
   -- ---- what a record's answer makes of the box
   abbrev pub MadeBy : Narrowed → Type 0

@@ -12,11 +12,9 @@ use lib.Seq.{set-get_or}
 use borrow.Author.Tests.{leb-true, leb-false, eq-eqb, ne_eqb}
 use Rattle.ladder.specs.Solution as L
 use Rattle.ladder.specs.Search.{reflection}
-use Rattle.ladder.specs.Narrowing.{Narrowing, none, ends}
-use Rattle.ladder.specs.Extended.{extended_narrowing}
-use Rattle.ladder.proofs.Hull.{narrowing_hull, hull_numbers, hull_a}
-use Rattle.ladder.proofs.Parts.{makes_decides}
-use Rattle.ladder.proofs.Solutions.{mirror_numbers}
+use Rattle.ladder.specs.Narrowing.{Narrowing, none, ends, narrowing}
+use Rattle.ladder.proofs.Hull.{narrowing_hull, hull_bounded, hull_a}
+use Rattle.ladder.proofs.Solutions.{mirror_bounded}
 use Rattle.arith.specs.declared.interval.Interval.{Interval}
 use Rattle.arith.specs.declared.refusal.Refusal.{Refusal}
 use Rattle.arith.specs.declared.interval.Cut.{Cut}
@@ -41,7 +39,7 @@ use Rattle.propagation.proofs.Boxes.{equal_same, unequal_same}
 use Rattle.propagation.proofs.Shrinking.{shrunk_box, step_shrunk}
 use Rattle.propagation.proofs.Mirroring.{mirror_proper, mirror_written, cut_written}
 use Rattle.propagation.proofs.KindSteps.{Three, put, sum_step, diff_step, Two, neg_solved, neg_unsolved}
-use Rattle.propagation.proofs.Places.{numbers, box_found, places_show}
+use Rattle.propagation.proofs.Places.{bounded, box_found, places_show}
 use Rattle.propagation.proofs.Settings.{Setting, f, e, X, A, B, x_proper, a_proper, b_proper, in_box, cells, x_cell, a_cell, b_cell, x_is, a_is, b_is, valid, MadeBy, pair_places, put_places}
 use Rattle.propagation.proofs.RepeatSteps.{CellsAre, apart, twice, cells_are, sum_repeated, diff_repeated, neg_repeated}
 use Rattle.sheet.proofs.Records.{Kinded, a_sum, a_diff, a_neg, kinded, first_in, second_in, third_in}
@@ -50,28 +48,28 @@ module _ (g : Setting) where
   -- the narrowing of intervals in patterns
   narrowed_is :
       (I J K : L.Interval) → Proper (f g) (e g) I → Proper (f g) (e g) J → Proper (f g) (e g) K →
-      narrow_of g.width (patterns_of g.width I) (patterns_of g.width J) (patterns_of g.width K) ≡ narrow_answer (format_of g.width) (extended_narrowing (f g) (e g) I J K)
+      narrow_of g.width (patterns_of g.width I) (patterns_of g.width J) (patterns_of g.width K) ≡ narrow_answer (format_of g.width) (narrowing (f g) (e g) I J K)
   narrowed_is I J K x a b =
       valid_narrow g.width (patterns_of g.width I) (patterns_of g.width J) (patterns_of g.width K) (valid g I x) (valid g J a) (valid g K b)
-      ∙ rw (written_span g.width I (numbers x), written_span g.width J (numbers a), written_span g.width K (numbers b))
+      ∙ rw (written_span g.width I (bounded x), written_span g.width J (bounded a), written_span g.width K (bounded b))
 
   -- ---- a sum and a diff over three cells
   module _ (three : Three g.box g.r) where
-    by_sum : kind_of g.r.kind ≡ sum → (t : Narrowing) → extended_narrowing (f g) (e g) (X g) (A g) (B g) ≡ t → MadeBy g (turn_second g.width 0 (narrow_answer (format_of g.width) t))
+    by_sum : kind_of g.r.kind ≡ sum → (t : Narrowing) → narrowing (f g) (e g) (X g) (A g) (B g) ≡ t → MadeBy g (turn_second g.width 0 (narrow_answer (format_of g.width) t))
     by_sum k none h = sum_step (f g) (e g) g.box g.r k three none h
     by_sum k (ends X' A' B') h = (put g.box g.r X' A' B', sum_step (f g) (e g) g.box g.r k three (ends X' A' B') h, put_places g X' A' B')
 
     by_diff :
-        kind_of g.r.kind ≡ diff → (t : Narrowing) → extended_narrowing (f g) (e g) (X g) (reflection (f g) (e g) (A g)) (B g) ≡ t →
+        kind_of g.r.kind ≡ diff → (t : Narrowing) → narrowing (f g) (e g) (X g) (reflection (f g) (e g) (A g)) (B g) ≡ t →
         MadeBy g (turn_second g.width 1 (narrow_answer (format_of g.width) t))
-    by_diff k none h = diff_step (f g) (e g) g.box g.r k three (numbers (a_proper g)) none h
+    by_diff k none h = diff_step (f g) (e g) g.box g.r k three (bounded (a_proper g)) none h
     by_diff k (ends X' A' B') h =
         let M = reflection (f g) (e g) (A g) in
-        let H = narrowing_hull (makes_decides (f g) (e g)) (X g) M (B g) X' A' B' h in
-        let b = (hull_numbers (X g) M (B g) X' A' B' H (numbers (x_proper g)) (mirror_numbers (f g) (e g) (A g) (numbers (a_proper g))) (numbers (b_proper g))).1 in
-        let p : Proper (f g) (e g) A' = record { low = b.low; high = b.high; order = (hull_a (X g) M (B g) X' A' B' H).order } in (
+        let H = narrowing_hull (f g) (e g) (X g) M (B g) X' A' B' h in
+        let b = (hull_bounded (f g) (e g) (X g) M (B g) X' A' B' H (bounded (x_proper g)) (mirror_bounded (f g) (e g) (A g) (bounded (a_proper g))) (bounded (b_proper g))).1 in
+        let p : Proper (f g) (e g) A' = record { low = b.low; high = b.high; order = (hull_a (f g) (e g) (X g) M (B g) X' A' B' H).order } in (
           put g.box g.r X' (reflection (f g) (e g) A') B',
-          diff_step (f g) (e g) g.box g.r k three (numbers (a_proper g)) (ends X' A' B') h,
+          diff_step (f g) (e g) g.box g.r k three (bounded (a_proper g)) (ends X' A' B') h,
           ap (λ (I : Interval). put (cells g) g.r (patterns_of g.width X') I (patterns_of g.width B')) (mirror_written g.width g.known A' p)
               ∙ put_places g X' (reflection (f g) (e g) A') B',
         )
@@ -80,14 +78,14 @@ module _ (g : Setting) where
     sum_made k =
         subst (λ (t : Narrowed). MadeBy g (turn_second g.width 0 t))
         (sym ((λ i. narrow_of g.width (x_is g i) (a_is g i) (b_is g i)) ∙ narrowed_is (X g) (A g) (B g) (x_proper g) (a_proper g) (b_proper g)))
-        (by_sum k (extended_narrowing (f g) (e g) (X g) (A g) (B g)) refl)
+        (by_sum k (narrowing (f g) (e g) (X g) (A g) (B g)) refl)
 
     diff_made : kind_of g.r.kind ≡ diff → MadeBy g (turn_second g.width 1 (narrow_of g.width (x_cell g) (mirrored_ends (format_of g.width) (a_cell g)) (b_cell g)))
     diff_made k =
         let m = ap (mirrored_ends (format_of g.width)) (a_is g) ∙ mirror_written g.width g.known (A g) (a_proper g) in
         subst (λ (t : Narrowed). MadeBy g (turn_second g.width 1 t))
         (sym ((λ i. narrow_of g.width (x_is g i) (m i) (b_is g i)) ∙ narrowed_is (X g) (reflection (f g) (e g) (A g)) (B g) (x_proper g) (mirror_proper (f g) (e g) (A g) (a_proper g)) (b_proper g)))
-        (by_diff k (extended_narrowing (f g) (e g) (X g) (reflection (f g) (e g) (A g)) (B g)) refl)
+        (by_diff k (narrowing (f g) (e g) (X g) (reflection (f g) (e g) (A g)) (B g)) refl)
 
   -- ---- a neg over two cells: the third cell is written back as it came
   module _ (k : kind_of g.r.kind ≡ neg) (two : Two g.box g.r) where
@@ -106,12 +104,12 @@ module _ (g : Setting) where
     by_mirror : (t : Bool) → leb S.low S.high ≡ t → MadeBy g (mirror_by g.width (b_cell g) (cond t (Shared (patterns_of g.width S)) Empty))
     by_mirror true o = (
       set (set g.box g.r.a (reflection (f g) (e g) S)) g.r.x S,
-      neg_solved (f g) (e g) g.box g.r k two (numbers (x_proper g)) (numbers (a_proper g)) (leb-true _ _ o),
+      neg_solved (f g) (e g) g.box g.r k two (bounded (x_proper g)) (bounded (a_proper g)) (leb-true _ _ o),
       ap (λ (I : Interval). put (cells g) g.r (patterns_of g.width S) I (b_cell g)) (mirror_written g.width g.known S (s_proper (leb-true _ _ o)))
           ∙ ap (λ (l : List Interval). set (set l g.r.a (patterns_of g.width (reflection (f g) (e g) S))) g.r.x (patterns_of g.width S)) (set-get_or (cells g) g.r.b no_cell)
           ∙ pair_places g g.box g.is.cells S (reflection (f g) (e g) S),
     )
-    by_mirror false o = neg_unsolved (f g) (e g) g.box g.r k two (numbers (x_proper g)) (numbers (a_proper g)) (leb-false _ _ o)
+    by_mirror false o = neg_unsolved (f g) (e g) g.box g.r k two (bounded (x_proper g)) (bounded (a_proper g)) (leb-false _ _ o)
 
     mirror_made : MadeBy g (mirror_answer g.width (x_cell g) (a_cell g) (b_cell g))
     mirror_made =

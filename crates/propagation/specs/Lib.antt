@@ -6,4 +6,3 @@ pub mod RecordSteps
 pub mod Loops
 pub mod Narrowings
 pub mod Planning
-pub mod FiniteSheets

@@ -3,8 +3,6 @@ use Rattle.std.specs.Prelude.{Bool, cond, ℕ, ltb, eqb}
 use Rattle.arith.specs.declared.interval.Interval.{Interval}
 use Rattle.arith.specs.declared.interval.Cut.{Cut}
 use Rattle.arith.specs.declared.interval.Cut.TheVariants as Cut
-use Rattle.arith.specs.declared.interval.Image.{Image}
-use Rattle.arith.specs.declared.interval.Image.TheVariants as Image
 use Rattle.arith.specs.declared.narrow.Narrowed.{Narrowed}
 use Rattle.arith.specs.declared.narrow.Narrowed.TheVariants.{Ends, Refused}
 use Rattle.arith.specs.declared.repeated.Paired.{Paired}
@@ -13,7 +11,7 @@ use Rattle.arith.specs.Refusals.{refusal}
 use Rattle.arith.specs.Formats.{format_of}
 use Rattle.arith.specs.Intervals.{mirrored_ends, cut_of}
 use Rattle.arith.specs.Narrows.{narrow_of}
-use Rattle.arith.specs.Repeats.{doubling, absorbing, cancelling, halving, pair_of, still_of}
+use Rattle.arith.specs.Repeats.{doubling, absorbing, pair_of}
 use Rattle.sheet.specs.declared.kept.Record.{Record}
 use Rattle.sheet.specs.Sheets.{no_cell}
 use Rattle.propagation.specs.declared.step.Alike.{Alike}
@@ -42,33 +40,28 @@ cells_of x a b =
     cond (eqb x a) (cond (eqb x b) (Repeated Alike.All) (Repeated Alike.XA))
     (cond (eqb x b) (Repeated Alike.XB) (cond (eqb a b) (Repeated Alike.AB) Apart))
 
--- what an interval shares with zero, for both of a pair; 11 where that is nothing
-abbrev pub zero_by : Cut → Paired
-zero_by (Cut.Shared z) = Paired.Ends z z
-zero_by Cut.Empty = Paired.Refused (refusal 11)
-zero_by (Cut.Refused r) = Paired.Refused r
+-- the first interval as it came, and what the second shares with zero; 11 where that is nothing
+abbrev pub zero_by : Interval → Cut → Paired
+zero_by p (Cut.Shared z) = Paired.Ends p z
+zero_by p Cut.Empty = Paired.Refused (refusal 11)
+zero_by p (Cut.Refused r) = Paired.Refused r
 
--- so zero alone is left of it
-abbrev pub zero_answer : ℕ → Interval → Paired
-zero_answer width i = zero_by (cut_of width i no_cell)
-
--- what of one interval is its own double, for both of a pair
-abbrev pub still_by : Image → Paired
-still_by (Image.Is i) = Paired.Ends i i
-still_by (Image.Refused r) = Paired.Refused r
+-- so zero alone is left of q
+abbrev pub zero_answer : ℕ → Interval → Interval → Paired
+zero_answer width p q = zero_by p (cut_of width q no_cell)
 
 -- a pair with its second interval turned
 abbrev pub turn_other : ℕ → ℕ → Paired → Paired
 turn_other width kind (Paired.Ends p q) = Paired.Ends p (turned width kind q)
 turn_other width kind (Paired.Refused r) = Paired.Refused r
 
--- of the cell named twice and of the other. XA: x ⊕ x = b, or x ⊖ x = b. XB: x ⊕ a = x, with the mirror of a for x ⊖ a = x.
--- AB: x ⊕ a = a, where a absorbs x, or x ⊖ a = a. All three alike: x ⊕ x = x; x ⊖ x = x leaves zero
+-- of the cell named twice and of the other. XA: x ⊕ x = b; x ⊖ x = b says that b is zero. XB: x ⊕ a = x, with the mirror of a for x ⊖ a = x.
+-- AB: x ⊕ a = a, where a absorbs x; x ⊖ a = a says that a ⊕ a = x. All three alike leave zero
 abbrev pub two_answer : ℕ → ℕ → Alike → Interval → Interval → Interval → Paired
-two_answer width kind Alike.XA x a b = cond (eqb kind 1) (pair_of cancelling width x b) (pair_of doubling width x b)
+two_answer width kind Alike.XA x a b = cond (eqb kind 1) (zero_answer width x b) (pair_of doubling width x b)
 two_answer width kind Alike.XB x a b = turn_other width kind (pair_of absorbing width x (turned width kind a))
-two_answer width kind Alike.AB x a b = cond (eqb kind 1) (pair_of halving width a x) (pair_of absorbing width a x)
-two_answer width kind Alike.All x a b = cond (eqb kind 1) (zero_answer width x) (still_by (still_of width x))
+two_answer width kind Alike.AB x a b = cond (eqb kind 1) (pair_of doubling width a x) (pair_of absorbing width a x)
+two_answer width kind Alike.All x a b = zero_answer width x x
 
 -- the pair as x, a and b
 abbrev pub in_roles : Alike → Interval → Interval → Narrowed
@@ -100,7 +93,7 @@ both_by b (Paired.Refused r) = Refused r
 
 -- of one cell or of two
 abbrev pub neg_answer : ℕ → Bool → Interval → Interval → Interval → Narrowed
-neg_answer width one x a b = cond one (both_by b (zero_answer width x)) (mirror_answer width x a b)
+neg_answer width one x a b = cond one (both_by b (zero_answer width x x)) (mirror_answer width x a b)
 
 -- ---- a record
 -- a sum or a diff, by which numbers are one

@@ -1,14 +1,12 @@
 // One record on the intervals of its cells: what it leaves of them.
 ghost use Rattle.std.specs.Prelude.{◌≡◌};
-ghost use Rattle.propagation.specs.RecordSteps.{turned, turn_second, three_answer, cells_of, zero_answer, still_by, turn_other, two_answer, in_roles, pair_in_roles, mirror_answer, neg_answer, record_answer};
-ghost use Rattle.arith.specs.Repeats.{absorbing, pair_of, still_of};
+ghost use Rattle.propagation.specs.RecordSteps.{turned, turn_second, three_answer, cells_of, zero_answer, turn_other, two_answer, in_roles, pair_in_roles, mirror_answer, neg_answer, record_answer};
+ghost use Rattle.arith.specs.Repeats.{absorbing, pair_of};
 
-use arith::interval::{Cut, Image, Interval};
+use arith::interval::{Cut, Interval};
 use arith::narrow::Narrowed;
 use arith::refusal::refuse;
-use arith::repeated::{
-    Paired, narrow_absorb, narrow_cancel, narrow_double, narrow_halve, narrow_still,
-};
+use arith::repeated::{Paired, narrow_absorb, narrow_double};
 use machine::narrow::narrow;
 use sheet::kept::Record;
 
@@ -80,24 +78,14 @@ fn narrow_three(width: u64, kind: u64, x: Interval, a: Interval, b: Interval) ->
     turn_back(width, kind, narrowed)
 }
 
-// Zero alone of an interval, for both of a pair; 11 where zero is not in it.
-fn zero_alone(width: u64, x: Interval) -> Paired
-    ensures { result ≡ zero_answer width x }
+// The first interval as it came, and zero alone of the second; 11 where zero is not in it.
+fn with_zero(width: u64, p: Interval, q: Interval) -> Paired
+    ensures { result ≡ zero_answer width p q }
 {
-    match x.cut(width, Interval::new(0, 0)) {
-        Cut::Shared(z) => Paired::Ends { p: z, q: z },
+    match q.cut(width, Interval::new(0, 0)) {
+        Cut::Shared(z) => Paired::Ends { p, q: z },
         Cut::Empty => Paired::Refused(refuse(11)),
         Cut::Refused(r) => Paired::Refused(r),
-    }
-}
-
-// A sum with one cell in all three places: zero and the infinities of it, for both of a pair.
-fn still_alone(width: u64, x: Interval) -> Paired
-    ensures { result ≡ still_by (still_of width x) }
-{
-    match narrow_still(width, x) {
-        Image::Is(i) => Paired::Ends { p: i, q: i },
-        Image::Refused(r) => Paired::Refused(r),
     }
 }
 
@@ -114,14 +102,14 @@ fn at_rest(width: u64, kind: u64, x: Interval, a: Interval) -> Paired
     }
 }
 
-// A sum or a diff with one cell in two places: what is left of that cell and of the other. With one cell in all three both are what is left of it.
+// A sum or a diff with one cell in two places: what is left of that cell and of the other. With one cell in all three the second is what is left of it, zero.
 fn narrow_two(width: u64, kind: u64, alike: Alike, x: Interval, a: Interval, b: Interval) -> Paired
     ensures { result ≡ two_answer width kind alike x a b }
 {
     match alike {
         Alike::XA => {
             if kind == 1 {
-                narrow_cancel(width, x, b)
+                with_zero(width, x, b)
             } else {
                 narrow_double(width, x, b)
             }
@@ -129,18 +117,12 @@ fn narrow_two(width: u64, kind: u64, alike: Alike, x: Interval, a: Interval, b: 
         Alike::XB => at_rest(width, kind, x, a),
         Alike::AB => {
             if kind == 1 {
-                narrow_halve(width, a, x)
+                narrow_double(width, a, x)
             } else {
                 narrow_absorb(width, a, x)
             }
         }
-        Alike::All => {
-            if kind == 1 {
-                zero_alone(width, x)
-            } else {
-                still_alone(width, x)
-            }
-        }
+        Alike::All => with_zero(width, x, x),
     }
 }
 
@@ -189,7 +171,7 @@ fn narrow_neg(width: u64, one: bool, x: Interval, a: Interval, b: Interval) -> N
     if !one {
         return narrow_mirror(width, x, a, b);
     }
-    match zero_alone(width, x) {
+    match with_zero(width, x, x) {
         Paired::Ends { q, .. } => Narrowed::Ends { x: q, a: q, b },
         Paired::Refused(r) => Narrowed::Refused(r),
     }

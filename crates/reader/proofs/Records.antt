@@ -1,17 +1,19 @@
 -- What is written as a line is read as its record: the head, a cell, a record over cells. Rests on specs/Texts, Numerals and Fields.
 use mathlib.Core.Path.{◌≡◌, refl, sym, ap₂, ◌∙◌}
+use mathlib.Core.Logic.{inl, inr}
 use mathlib.Core.Bool.{Bool, true, false, cond, and-eq-true_iff}
 use mathlib.Core.List.{◌∷◌, ◌++◌}
-use Prim.Native.Nat.{ℕ, ◌^◌, ◌≤◌, ◌<◌}
+use Prim.Native.Nat.{ℕ, ◌*◌, ◌^◌, ◌≤◌, ◌<◌}
 use native.Mathlib.Omega.{arith}
 use lib.Dec.{eqb}
 use lib.ListN.{length, length-append}
 use borrow.Author.Tests.{ne_eqb}
 use Rattle.ladder.specs.Ordinal as L
-use Rattle.ladder.proofs.Ordinals.{number_fits}
+use Rattle.ladder.proofs.Cases.{le_or_lt}
+use Rattle.ladder.proofs.Ordinals.{finite_high, infinity_lt_sign}
 use Rattle.arith.specs.declared.interval.Interval.{Interval}
-use Rattle.arith.specs.Formats.{binary, format_of, is_number}
-use Rattle.arith.specs.Intervals.{ends_number}
+use Rattle.arith.specs.Formats.{binary, format_of, is_finite}
+use Rattle.arith.specs.Intervals.{ends_finite}
 use Rattle.sheet.specs.declared.kept.Record.{Record}
 use Rattle.sheet.specs.Records.{Kind, sum, diff, neg, kind_of}
 use Rattle.sheet.specs.Faults.{cell_fault}
@@ -27,13 +29,19 @@ use Rattle.reader.proofs.Numerals.{numeral_back, pattern_back, decimal_short, di
 use Rattle.reader.proofs.Fields.{Free, free_append, before_free, after_free, decimal_free, hex_free}
 
 -- ---- patterns have room in their digits
-pattern_small : (w p : ℕ) → is_number (format_of w) p ≡ true → p < 16 ^ digits_for w
+finite_bound : (f e p : ℕ) → L.is_finite f e p ≡ true → p < 2 * L.sign f e
+finite_bound f e p h = elim (le_or_lt (L.sign f e) p) [
+  | inl l ↦ omega (arith, finite_high f e p h l, infinity_lt_sign f e)
+  | inr l ↦ omega arith
+]
+
+pattern_small : (w p : ℕ) → is_finite (format_of w) p ≡ true → p < 16 ^ digits_for w
 unfolding digits_for L.sign
 pattern_small w p = go (eqb w 32)
   where
-    go : (t : Bool) → is_number (cond t (binary 23 8) (binary 52 11)) p ≡ true → p < 16 ^ cond t 8 16
-    go true h = number_fits 23 8 p h
-    go false h = number_fits 52 11 p h
+    go : (t : Bool) → is_finite (cond t (binary 23 8) (binary 52 11)) p ≡ true → p < 16 ^ cond t 8 16
+    go true h = finite_bound 23 8 p h
+    go false h = finite_bound 52 11 p h
 
 -- both ends of a cell without a fault
 pub record Small (w : ℕ) (I : Interval) : Type 0 where
@@ -41,9 +49,9 @@ pub record Small (w : ℕ) (I : Interval) : Type 0 where
   pub high : I.high < 16 ^ digits_for w
 
 pub cell_small : (w : ℕ) (I : Interval) → cell_fault w I ≡ 0 → Small w I
-unfolding ends_number
+unfolding ends_finite
 cell_small w I z =
-    let e = (and-eq-true_iff (is_number (format_of w) I.low) (is_number (format_of w) I.high)).0 (fault_free w I z).numbers in
+    let e = (and-eq-true_iff (is_finite (format_of w) I.low) (is_finite (format_of w) I.high)).0 (fault_free w I z).finite in
     record { low = pattern_small w I.low e.0; high = pattern_small w I.high e.1 }
 
 -- ---- the head

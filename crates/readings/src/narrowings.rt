@@ -140,34 +140,18 @@ fn read_extremes() {
     read_narrowing(64, all, all, all, ends(all, all, all));
 }
 
-// All numbers; an infinite sum of finite numbers; opposite infinities, which make no triple.
-fn read_infinities() {
-    let up = point(0x7FF0000000000000);
-    let down = point(0xFFF0000000000000);
-    let whole = Interval::new(0xFFF0000000000000, 0x7FF0000000000000);
-    read_narrowing(64, whole, whole, whole, ends(whole, whole, whole));
-    let positive = Interval::new(0, 0x7FEFFFFFFFFFFFFF);
-    let reaching = Interval::new(0x7C90000000000000, 0x7FEFFFFFFFFFFFFF);
-    read_narrowing(64, positive, positive, up, ends(reaching, reaching, up));
-    let finite = all_floats();
-    read_narrowing(64, up, whole, finite, refused(11));
-    let above = Interval::new(0xFFEFFFFFFFFFFFFF, 0x7FF0000000000000);
-    read_narrowing(64, up, whole, whole, ends(up, above, up));
-    read_narrowing(64, up, down, whole, refused(11));
-}
-
 // Refusals 1; 2 for each end; 3 for x, a, b.
 fn read_refusals() {
     let one = one();
     let crossed = Interval::new(0x4000000000000000, 0x3FF0000000000000);
-    let no_number = Interval::new(0, 0x7FF0000000000001);
-    let no_number_low = Interval::new(0xFFF0000000000001, 0);
-    read_narrowing(48, no_number, crossed, crossed, refused(1));
+    let infinite = Interval::new(0, 0x7FF0000000000000);
+    let infinite_low = Interval::new(0xFFF0000000000000, 0);
+    read_narrowing(48, infinite, crossed, crossed, refused(1));
     let second = refused(2);
-    read_narrowing(64, no_number_low, crossed, one, second);
-    read_narrowing(64, no_number, crossed, one, second);
-    read_narrowing(64, crossed, no_number, one, second);
-    read_narrowing(64, crossed, one, no_number, second);
+    read_narrowing(64, infinite_low, crossed, one, second);
+    read_narrowing(64, infinite, crossed, one, second);
+    read_narrowing(64, crossed, infinite, one, second);
+    read_narrowing(64, crossed, one, infinite, second);
     let third = refused(3);
     read_narrowing(64, crossed, one, one, third);
     read_narrowing(64, one, crossed, one, third);
@@ -180,6 +164,5 @@ pub(crate) fn read_narrowings() {
     read_starred();
     read_listing();
     read_extremes();
-    read_infinities();
     read_refusals();
 }

@@ -8,7 +8,7 @@ use Rattle.arith.specs.declared.interval.Interval.{Interval}
 use Rattle.arith.specs.declared.interval.Image.{Image}
 use Rattle.arith.specs.declared.interval.Image.TheVariants.{Is, Refused}
 use Rattle.arith.specs.Intervals.{canonical_of, Valid}
-use Rattle.arith.proofs.Valid.{canonical_is, is_valid, refused_number, valid_numbers, written_valid}
+use Rattle.arith.proofs.Valid.{canonical_is, is_valid, refused_number, valid_bounded, written_valid}
 use Rattle.sheet.specs.Cells.{ordinals_of, canonical_cell}
 use Rattle.sheet.specs.Faults.{image_number, cell_fault}
 
@@ -43,5 +43,5 @@ module _ (width : ℕ) (I : Interval) where
 pub canonical_faultless : (width : ℕ) (cell : Interval) → cell_fault width cell ≡ 0 → cell_fault width (canonical_cell width cell) ≡ 0
 canonical_faultless width cell z =
     let v = fault_free width cell z in
-    let b = valid_numbers width cell v in
+    let b = valid_bounded width cell v in
     no_fault width (canonical_cell width cell) (written_valid width (ordinals_of width cell) b.0 v.known b.1)

@@ -10,7 +10,7 @@ use lib.Dec.{ltb}
 use borrow.Author.Tests.{ltb-false, le-ltb}
 use Rattle.arith.specs.declared.interval.Interval.{Interval}
 use Rattle.arith.specs.Formats.{is_known}
-use Rattle.arith.proofs.Valid.{valid_numbers}
+use Rattle.arith.proofs.Valid.{valid_bounded}
 use Rattle.sheet.specs.declared.kept.Record.{Record}
 use Rattle.sheet.specs.declared.kept.Answer.TheVariants.{Done}
 use Rattle.sheet.specs.Records.{Names}
@@ -64,7 +64,7 @@ module _ (width limit m n : ℕ) (cells : List Interval) (records : List Record)
   proper size i l =
       let k : i < length cells = omega arith in
       let z = faultless (cell_fault width) no_cell 0 cells seen.cells_good i k in
-      let g = valid_numbers width (get_or cells i no_cell) (fault_free width (get_or cells i no_cell) z) in
+      let g = valid_bounded width (get_or cells i no_cell) (fault_free width (get_or cells i no_cell) z) in
       rw (get_d_under (ordinals_of width) cells i no_cell (record { low = 0; high = 0 }) k) (record { low = g.0.low; high = g.0.high; order = g.1 })
 
   pub tested : LetPass width limit m n cells records

@@ -1,6 +1,6 @@
 -- 01's boxes, by ordinals, and when one contains another. Assumes nothing.
 use Rattle.std.specs.Prelude.{◌≡◌, List, ℕ, ◌<◌, ◌≤◌, length, get_or}
-use Rattle.ladder.specs.Ordinal.{Number}
+use Rattle.ladder.specs.Ordinal.{Finite}
 use Rattle.ladder.specs.Solution.{Interval}
 
 -- 01's box: for each cell, in their order, the ordinals of its ends
@@ -11,10 +11,10 @@ Box = List Interval
 abbrev pub at : Box → ℕ → Interval
 at box i = get_or box i (record { low = 0; high = 0 })
 
--- 01's interval: two ends, finite or infinite (02, R-5), low not above high
+-- 01's interval: two finite ends, low not above high
 pub record Proper (f e : ℕ) (I : Interval) : Type 0 where
-  pub low : Number f e I.low
-  pub high : Number f e I.high
+  pub low : Finite f e I.low
+  pub high : Finite f e I.high
   pub order : I.low ≤ I.high
 
 -- 01: a box gives each of the n cells a nonempty interval

@@ -1,7 +1,7 @@
 -- 02's records: sums, diffs and negs over the cells of a sheet; the cells that one names, and when values fit it. Assumes nothing.
 use Rattle.std.specs.Prelude.{◌≡◌, Bool, cond, List, [], ◌∷◌, ℕ, ◌<◌, eqb}
 use Rattle.ladder.specs.Ordinal.{mirrored}
-use Rattle.ladder.specs.Extended.{makes}
+use Rattle.ladder.specs.Sum as Sum
 use Rattle.sheet.specs.declared.kept.Record.{Record}
 use Rattle.sheet.specs.Members.{Each}
 
@@ -31,15 +31,11 @@ named r = named_by (kind_of r.kind) r
 abbrev pub Values : Type 0
 Values = ℕ → ℕ
 
--- 02: x ⊕ a = b for a sum, x ⊕ (-a) = b for a diff, by a test of triples; y = -x for a neg, whose y is the second number
-abbrev pub fits_with : (ℕ → ℕ → ℕ → Bool) → ℕ → ℕ → Kind → ℕ → ℕ → ℕ → Bool
-fits_with adds f e sum x a b = adds x a b
-fits_with adds f e diff x a b = adds x (mirrored f e a) b
-fits_with adds f e neg x y b = eqb y (mirrored f e x)
-
--- by R-5's triples, of which opposite infinities make none
+-- 02: x ⊕ a = b for a sum, x ⊕ (-a) = b for a diff, y = -x for a neg, whose y is the second number
 abbrev pub fits_by : ℕ → ℕ → Kind → ℕ → ℕ → ℕ → Bool
-fits_by f e kind x a b = fits_with (makes f e) f e kind x a b
+fits_by f e sum x a b = eqb (Sum.sum f e x a) b
+fits_by f e diff x a b = eqb (Sum.sum f e x (mirrored f e a)) b
+fits_by f e neg x y b = eqb y (mirrored f e x)
 
 -- whether values fit a record
 abbrev pub Rules : Type 0

@@ -63,7 +63,7 @@ fn listing() -> Sheet {
 
 // Calls that a sheet of three cells with room refuses: 2, 3; 4 before 5, for each kind. It stays as it was.
 fn refuse_faults(sheet: Sheet) -> Sheet {
-    let s = with_cell(sheet, 1, 0x7FF0000000000001);
+    let s = with_cell(sheet, 1, 0x7FF0000000000000);
     let s = with_cell(s, 1, 0);
     let s = with_record(s, 3, 3, 3, 3);
     let s = with_record(s, 2, 3, 3, 1);
@@ -140,7 +140,7 @@ fn read_handed() {
     read_head(64, 65536, 65, 129);
     read_head(64, 1, 0xFFFFFFFFFFFFFFFF, 129);
     read_head(64, 1, 64, 0xFFFFFFFFFFFFFFFF);
-    read_accepted(with_cell_2(1, 0x7FF0000000000001));
+    read_accepted(with_cell_2(1, 0x7FF0000000000000));
     read_accepted(with_cell_2(1, 0));
     read_accepted(with_record_1(0xFFFFFFFFFFFFFFFF, 3, 3, 3));
     read_accepted(with_record_1(2, 3, 3, 1));

@@ -3,7 +3,6 @@ mod building;
 mod cases;
 mod compare;
 mod garbage;
-mod infinite;
 mod lending;
 mod lists;
 mod print;
@@ -17,6 +16,5 @@ fn main() {
     garbage::read_garbage();
     lists::read_lists();
     repeated::read_repeated();
-    infinite::read_infinite();
     compare::compare_lists();
 }

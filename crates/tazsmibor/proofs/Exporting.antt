@@ -12,7 +12,7 @@ use Rattle.arith.specs.declared.interval.Interval.{Interval}
 use Rattle.arith.specs.declared.narrow.Narrowed.{Narrowed}
 use Rattle.arith.specs.declared.narrow.Narrowed.TheVariants.{Ends, Refused}
 use Rattle.arith.specs.Formats.{format_of}
-use Rattle.arith.specs.Narrows.{narrow_answer, narrow_ranges, narrow_in, narrow_of}
+use Rattle.arith.specs.Narrows.{narrow_answer, narrow_finite, narrow_in, narrow_of}
 use Rattle.arith.specs.Answers.{Reply, two_ends}
 use Rattle.arith.specs.Replies.{reply_after, given_tests, solved, in_triples, six_patterns}
 use Rattle.arith.proofs.Replies.{after_chain}
@@ -28,8 +28,8 @@ module _ (s : List ℕ) (x a b : Interval) where
   abbrev due : Reply ℕ
   due = reply_after (roomy (length s) ∷ []) (two_ends x ++ two_ends a ++ two_ends b)
 
-  ends_number_lem : export_number (length s) (Ends x a b) ≡ due.number
-  ends_number_lem = elim (dec_lt (length s) 48) [
+  ends_number : export_number (length s) (Ends x a b) ≡ due.number
+  ends_number = elim (dec_lt (length s) 48) [
     | yes h ↦ rw (lt-ltb _ _ h, lt-leb _ _ h)
     | no h ↦ let l : 48 ≤ length s = omega arith in rw (le-ltb _ _ l, le-leb _ _ l)
   ]
@@ -49,7 +49,7 @@ module _ (width : ℕ) (x a b : Interval) (s : List ℕ) where
   by_tests :
       {C : Type 0} (f : Narrowed → C) (g : Reply ℕ → C) → ((q : ℕ) → 0 < q → f (Refused (record { number = q; place = 0 })) ≡ g (record { number = q; place = 0; values = [] })) →
       ((p q r : Interval) → f (Ends p q r) ≡ g (reply_after (roomy (length s) ∷ []) (two_ends p ++ two_ends q ++ two_ends r))) → f (narrow_of width x a b) ≡ g (export_reply width x a b (length s))
-  unfolding narrow_of narrow_in narrow_ranges
+  unfolding narrow_of narrow_in narrow_finite
   by_tests f g r e =
       let one = r 1 (omega arith) in
       let two = r 2 (omega arith) in
@@ -63,7 +63,7 @@ module _ (width : ℕ) (x a b : Interval) (s : List ℕ) where
       by_answer (ends X A B) = e _ _ _
 
   number_due : export_number (length s) (narrow_of width x a b) ≡ (export_reply width x a b (length s)).number
-  number_due = by_tests (export_number (length s)) (λ (d : Reply ℕ). d.number) (λ q h. refl) (ends_number_lem s)
+  number_due = by_tests (export_number (length s)) (λ (d : Reply ℕ). d.number) (λ q h. refl) (ends_number s)
 
   buffer_due : export_buffer s (narrow_of width x a b) ≡ stored_by (export_reply width x a b (length s)) s
   buffer_due = by_tests (export_buffer s) (λ (d : Reply ℕ). stored_by d s) (λ q h. rw (ne_eqb q 0 (λ z. omega arith))) (ends_buffer s)

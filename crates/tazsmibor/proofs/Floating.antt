@@ -7,22 +7,22 @@ use lib.Dec.{eqb}
 use lib.Ieee.{binary64, of_bits, to_bits}
 use borrow.Author.Tests.{eq-eqb, ne_eqb}
 use Rattle.ladder.specs.Narrowing.{Narrowing, none, ends}
-use Rattle.ladder.proofs.Numbers.{pattern_read}
+use Rattle.ladder.proofs.Standard.{pattern_read}
 use Rattle.arith.specs.declared.format.Format.{Format}
 use Rattle.arith.specs.declared.interval.Interval.{Interval}
 use Rattle.arith.specs.declared.refusal.Refusal.{Refusal}
 use Rattle.arith.specs.declared.narrow.Narrowed.{Narrowed}
 use Rattle.arith.specs.declared.narrow.Narrowed.TheVariants as Narrowed
 use Rattle.arith.specs.Formats.{format_of}
-use Rattle.arith.specs.Intervals.{ends_number}
+use Rattle.arith.specs.Intervals.{ends_finite}
 use Rattle.tazsmibor.specs.declared.floats.Floats.{Floats}
 use Rattle.tazsmibor.specs.declared.floats.Floats.TheVariants.{Point, Span, None}
 use Rattle.tazsmibor.specs.declared.floats.FloatAnswer.TheVariants.{Values, Refused}
-use Rattle.arith.specs.Narrows.{written, narrow_answer, narrow_ranges, narrow_in, narrow_of}
+use Rattle.arith.specs.Narrows.{written, narrow_answer, narrow_finite, narrow_in, narrow_of}
 use Rattle.arith.specs.Answers.{gives}
 use Rattle.arith.specs.Replies.{reply_after, given_tests, in_triples}
 use Rattle.arith.proofs.Intervals.{ends_both}
-use Rattle.arith.proofs.Callers.{answered_numbers}
+use Rattle.arith.proofs.Callers.{answered_finite}
 use Rattle.arith.proofs.Replies.{on_test, Passed, after_chain}
 use Rattle.tazsmibor.specs.Floating.{floats_of, float_answer, narrow_floats_of, float_patterns, floats_told, one_or_two, three_floats, float_values}
 
@@ -51,7 +51,7 @@ module _ (x a b : Interval) where
 
 -- ---- the reply due
 -- the patterns of an interval's floats are its ends
-patterns_told : (I : Interval) → ends_number (format_of 64) I ≡ true → float_patterns (floats_of I) ≡ one_or_two I
+patterns_told : (I : Interval) → ends_finite (format_of 64) I ≡ true → float_patterns (floats_of I) ≡ one_or_two I
 unfolding floats_of
 patterns_told I h = on_test float_patterns (eqb I.low I.high) _ _ (λ _. ap (λ (p : ℕ). p ∷ []) l) (ap₂ (λ (p q : ℕ). p ∷ q ∷ []) l u)
   where
@@ -70,11 +70,11 @@ module _ (x a b : Interval) where
   three_told p (ends X A B) i =
       let s = p.1 in
       let f =
-      answered_numbers 64 x a b _ _ _
+      answered_finite 64 x a b _ _ _
       (record {
-        valid_x = record { known = p.0; numbers = s.0; ordered = s.1.1.1.0 };
-        valid_a = record { known = p.0; numbers = s.1.0; ordered = s.1.1.1.1.0 };
-        valid_b = record { known = p.0; numbers = s.1.1.0; ordered = s.1.1.1.1.1.0 };
+        valid_x = record { known = p.0; finite = s.0; ordered = s.1.1.1.0 };
+        valid_a = record { known = p.0; finite = s.1.0; ordered = s.1.1.1.1.0 };
+        valid_b = record { known = p.0; finite = s.1.1.0; ordered = s.1.1.1.1.1.0 };
         X = X;
         A = A;
         B = B;
@@ -87,7 +87,7 @@ module _ (x a b : Interval) where
       rw (patterns_told (written F X) f.0, patterns_told (written F A) f.1, patterns_told (written F B) f.2)
 
   pub floats_told_lem : floats_told (narrow_floats_of x a b) ≡ reply_after (given_tests 64 x a b) (float_values x a b)
-  unfolding narrow_floats_of narrow_of narrow_in narrow_ranges
+  unfolding narrow_floats_of narrow_of narrow_in narrow_finite
   floats_told_lem =
       let n = in_triples 64 x a b in
       after_chain Narrowed.Refused (λ (N : Narrowed). floats_told (float_answer N)) (λ r. r) (given_tests 64 x a b) [] (narrow_answer F n) (three_floats n)

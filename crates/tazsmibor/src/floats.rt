@@ -1,7 +1,7 @@
 // The narrowing of one sum at width 64, with its result as floats.
 ghost use Rattle.std.specs.Prelude.{◌≡◌, true};
 ghost use Rattle.arith.specs.Formats.{format_of};
-ghost use Rattle.arith.specs.Intervals.{ends_number};
+ghost use Rattle.arith.specs.Intervals.{ends_finite};
 ghost use Rattle.arith.specs.Replies.{reply_after, given_tests};
 ghost use Rattle.tazsmibor.specs.Floating.{floats_of, narrow_floats_of, floats_told, float_values};
 
@@ -24,9 +24,9 @@ pub enum FloatAnswer {
     Refused(Refusal),
 }
 
-// An interval of numbers' patterns.
+// An interval of finite patterns.
 fn floats_of(i: Interval) -> Floats
-    requires { ends_number (format_of 64) i ≡ true }
+    requires { ends_finite (format_of 64) i ≡ true }
     ensures { result ≡ floats_of i }
 {
     if i.low == i.high {

@@ -5,7 +5,7 @@ use Prim.Native.Nat.{ℕ}
 use Rattle.arith.specs.declared.sum.Sum.{Sum}
 use Rattle.arith.specs.declared.sum.Sum.TheVariants.{Is, Refused}
 use Rattle.arith.specs.Formats.{format_of, ordinal}
-use Rattle.arith.specs.Sums.{sum_is, sum_answer, add_in, add_of}
+use Rattle.arith.specs.Sums.{sum_is, in_range, add_in, add_of}
 use Rattle.arith.specs.Answers.{Reply, sum_told}
 use Rattle.arith.specs.Replies.{sum_of, add_tests, add_values}
 use Rattle.arith.proofs.Replies.{after_chain, add_told}
@@ -17,7 +17,7 @@ number_told (Refused r) = refl
 
 module _ (width x a : ℕ) (s : List ℕ) where
   words_due : sum_words s (add_of width x a) ≡ stored_by (sum_reply width x a) s
-  unfolding add_of add_in sum_answer
+  unfolding add_of add_in in_range
   words_due =
       let F = format_of width in
       let p = sum_of width x a in

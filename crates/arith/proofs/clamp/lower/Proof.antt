@@ -1,7 +1,7 @@
 -- `arith::clamp::lower` meets its contract: the mirror image of the raised mirror image. Assumes nothing.
 use Rattle.std.proofs.Common.{ap, ◌∙◌, rules}
 use Rattle.ladder.specs.Search.{reflection, raised}
-use Rattle.ladder.proofs.Solutions.{mirror_bounded, bounded_numbers}
+use Rattle.ladder.proofs.Solutions.{mirror_bounded}
 use Rattle.ladder.proofs.Clamp.{raised_bounded}
 use Rattle.arith.specs.declared.range.Range.{Range}
 use Rattle.arith.specs.Intervals.{span}
@@ -9,7 +9,7 @@ use Rattle.arith.proofs.clamp.lower.Statement.{statement}
 use Rattle.arith.proofs.clamp.lower.Tie as tie
 
 reflect-requires : tie.Need-reflect-requires
-reflect-requires c κs = (c.requires.0, bounded_numbers c.requires.1)
+reflect-requires c κs = search rules
 
 raise-requires : tie.Need-raise-requires
 raise-requires c κs = search rules
@@ -19,7 +19,7 @@ reflect-requires-2 c κs =
     let z = c.before.before in
     let F = z.args.format in
     let b = raised_bounded F.fraction F.exponent z.requires.0.some z.args.k (span c.before.reflect.result) (rw c.before.reflect.ensures (mirror_bounded F.fraction F.exponent (span z.args.r) z.requires.1)) in
-    (z.requires.0, bounded_numbers (rw c.raise.ensures b))
+    (z.requires.0, (rw c.raise.ensures b))
 
 returns : tie.Need-returns
 returns c =

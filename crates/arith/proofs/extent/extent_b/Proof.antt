@@ -3,7 +3,6 @@ use Rattle.std.proofs.Common.{◌≤◌, arith, rules}
 use Rattle.ladder.specs.Search.{Least}
 use Rattle.ladder.proofs.Extremes.{spans_of, min_holds, max_holds}
 use Rattle.ladder.proofs.Solutions.{mirror_solution, mirror_b, mirror_b_greatest, finite_in, mirror_bounded}
-use Rattle.ladder.proofs.Ordinals.{finite_is_number}
 use Rattle.arith.specs.Formats.{mirrored, sum}
 use Rattle.arith.specs.Intervals.{reflected, span}
 use Rattle.arith.specs.Searches.{HasB}
@@ -56,7 +55,7 @@ mirror-of-requires-2 : tie.Need-mirror-of-requires-2
 mirror-of-requires-2 c κs =
     let z = c.before.before.before.before.before.before.before.before in
     let F = z.args.format in
-    (z.requires.0, finite_is_number (finite_in F.fraction F.exponent _ (mirror_bounded F.fraction F.exponent (span z.args.b) z.requires.3) _ (mirrored-least c).holds.solution.b_in))
+    (z.requires.0, finite_in F.fraction F.exponent _ (mirror_bounded F.fraction F.exponent (span z.args.b) z.requires.3) _ (mirrored-least c).holds.solution.b_in)
 
 returns : tie.Need-returns
 returns c =

@@ -63,7 +63,7 @@ extent-b-requires c κs =
     let p = first c.before.before.before.before in
     let q = second c in
     let k = narrowed_kept F.fraction F.exponent X A B _ _ (corners_span p q) (corners_span q p) in
-    (z.requires.0, spans_ends F z.args.x z.args.a z.args.b _ z.requires.1 (corners_span p q), spans_ends F z.args.a z.args.x z.args.b _ z.requires.2 (corners_span q p), z.requires.3, k _ _ _ p.solution, k _ _ _ (swap F.fraction F.exponent q.solution))
+    (z.requires.0, spans_ends F z.args.x z.args.a z.args.b _ z.requires.1 (corners_span p q), spans_ends F z.args.a z.args.x z.args.b _ z.requires.2 (corners_span q p), z.requires.3, k _ _ _ p.solution, k _ _ _ (swap q.solution))
 
 returns-3 : tie.Need-returns-3
 returns-3 c =

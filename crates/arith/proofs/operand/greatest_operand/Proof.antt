@@ -1,7 +1,7 @@
 -- `arith::operand::greatest_operand` meets its contract: the greatest operand is read off in the mirror. Assumes nothing.
 use Rattle.std.proofs.Common.{rules}
-use Rattle.ladder.proofs.Solutions.{finite_in, mirror_bounded, bounded_numbers}
-use Rattle.ladder.proofs.Ordinals.{mirror_finite, finite_is_number}
+use Rattle.ladder.proofs.Solutions.{finite_in, mirror_bounded}
+use Rattle.ladder.proofs.Ordinals.{mirror_finite}
 use Rattle.ladder.proofs.Operand.{greatest_operand, greatest_never}
 use Rattle.arith.specs.declared.operand.Found.TheVariants.{At, Absent}
 use Rattle.arith.specs.Formats.{mirrored}
@@ -16,13 +16,13 @@ mirrored-least : (c : tie.After-known-told) → let z = c.before.before.before.b
 mirrored-least c = rw (c.before.m.given.1, c.before.before.before.before.before.before.mirror-of.ensures, c.before.before.before.before.before.mirror-of2.ensures, c.before.before.before.before.reflect.ensures) at c.before.before.before.least-operand.ensures
 
 mirror-of-requires : tie.Need-mirror-of-requires
-mirror-of-requires c κs = (c.requires.0, finite_is_number c.requires.1)
+mirror-of-requires c κs = search rules
 
 mirror-of-requires-2 : tie.Need-mirror-of-requires-2
-mirror-of-requires-2 c κs = (c.before.requires.0, finite_is_number c.before.requires.2)
+mirror-of-requires-2 c κs = search rules
 
 reflect-requires : tie.Need-reflect-requires
-reflect-requires c κs = (c.before.before.requires.0, bounded_numbers c.before.before.requires.3)
+reflect-requires c κs = search rules
 
 least-operand-requires : tie.Need-least-operand-requires
 least-operand-requires c κs =
@@ -37,7 +37,7 @@ mirror-of-requires-3 : tie.Need-mirror-of-requires-3
 mirror-of-requires-3 c κs =
     let z = c.before.before.before.before.before.before.before in
     let F = z.args.format in
-    (z.requires.0, finite_is_number (finite_in F.fraction F.exponent _ (mirror_bounded F.fraction F.exponent (span z.args.r) z.requires.3) _ (mirrored-least c).holds.inside))
+    (z.requires.0, finite_in F.fraction F.exponent _ (mirror_bounded F.fraction F.exponent (span z.args.r) z.requires.3) _ (mirrored-least c).holds.inside)
 
 enum_told : tie.Need-enum-told
 enum_told c = search rules

@@ -6,9 +6,9 @@ use Rattle.arith.proofs.Sums.{matched}
 use Rattle.arith.proofs.sum.sum_of.Statement.{statement}
 use Rattle.arith.proofs.sum.sum_of.Tie as tie
 
-in_range : (c : tie.After-known-told) → let a = c.before.before.before.before.before.before.args in
+in_range_lem : (c : tie.After-known-told) → let a = c.before.before.before.before.before.before.args in
     IsSum a.format a.x a.a c.before.before.before.add-signed.result (Finite c.before.tested.given.0.0 c.before.tested.given.0.1.0)
-in_range c =
+in_range_lem c =
     let s = c.before.before.before in
     matched s.before.before.from-ordinal.ensures s.before.from-ordinal2.ensures c.before.tested.given.1 s.add-signed.ensures
 
@@ -19,13 +19,13 @@ overflowed c =
     matched s.before.before.from-ordinal.ensures s.before.from-ordinal2.ensures c.before.tested2.given.1 s.add-signed.ensures
 
 ordinal-requires : tie.Need-ordinal-requires
-ordinal-requires c κs = (c.before.before.before.before.before.before.requires.sound, omega (arith, (in_range c).within.m))
+ordinal-requires c κs = (c.before.before.before.before.before.before.requires.sound, omega (arith, (in_range_lem c).within.m))
 
 ordinal-requires-2 : tie.Need-ordinal-requires-2
-ordinal-requires-2 c κs = (c.before.before.before.before.before.before.requires.sound, (overflowed c).within.m)
+ordinal-requires-2 c κs = (c.before.before.before.before.before.before.requires.sound, omega (arith, (overflowed c).within))
 
 returns : tie.Need-returns
-returns c = c.ordinal.ensures ∙ (in_range c.before).ordinal
+returns c = c.ordinal.ensures ∙ (in_range_lem c.before).ordinal
 
 returns-2 : tie.Need-returns-2
 returns-2 c = c.ordinal2.ensures ∙ (overflowed c.before).ordinal

@@ -2,8 +2,9 @@
 use borrow.Author.Rules.{rules}
 use lib.Dec.{leb}
 use Rattle.arith.specs.Formats.{ordinal}
+use Rattle.arith.proofs.Intervals.{ends_both}
 use Rattle.machine.specs.Floats.{machine}
-use Rattle.machine.proofs.Floats.{sound_machine, number_of, finite_both}
+use Rattle.machine.proofs.Floats.{sound_machine, number_of}
 use Rattle.machine.proofs.KnownEnds.{corner_finite, high_ready, high_end}
 use Rattle.machine.proofs.end.high_end.Statement.{statement}
 use Rattle.machine.proofs.end.high_end.Tie as tie
@@ -29,7 +30,7 @@ opposite-requires-3 : tie.Need-opposite-requires-3
 opposite-requires-3 c κs =
     let z = c.before.before.before.before in
     let F = machine z.args.wide in
-    number_of F z.args.b.high (finite_both F z.args.b z.requires.finite).1
+    number_of F z.args.b.high (ends_both F z.args.b z.requires.finite).1
 
 least-end-requires : tie.Need-least-end-requires
 least-end-requires c κs =

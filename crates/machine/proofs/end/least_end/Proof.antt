@@ -3,8 +3,7 @@ use mathlib.Core.Path.{◌≡◌}
 use mathlib.Core.Bool.{true, not}
 use Prim.Native.Nat.{ℕ}
 use borrow.Author.Rules.{rules}
-use Rattle.arith.specs.Formats.{is_number}
-use Rattle.machine.specs.Floats.{machine}
+use Rattle.machine.specs.Floats.{machine, is_number}
 use Rattle.machine.proofs.Floats.{number_of, chosen}
 use Rattle.machine.proofs.KnownEnds.{known_end}
 use Rattle.machine.proofs.end.least_end.Statement.{statement}

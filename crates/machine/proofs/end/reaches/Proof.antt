@@ -5,9 +5,10 @@ use Prim.Native.Nat.{ℕ}
 use borrow.Author.Rules.{rules}
 use lib.Dec.{leb}
 use Rattle.ladder.specs.Solution.{In}
-use Rattle.arith.specs.Formats.{ordinal, is_number}
-use Rattle.machine.specs.Floats.{machine, ordinals}
-use Rattle.machine.proofs.Floats.{number_of, chosen, finite_both}
+use Rattle.arith.specs.Formats.{ordinal}
+use Rattle.arith.proofs.Intervals.{ends_both}
+use Rattle.machine.specs.Floats.{machine, is_number, ordinals}
+use Rattle.machine.proofs.Floats.{number_of, chosen}
 use Rattle.machine.proofs.KnownEnds.{inside_finite, clipped, made}
 use Rattle.machine.proofs.end.reaches.Statement.{statement}
 use Rattle.machine.proofs.end.reaches.Tie as tie
@@ -28,13 +29,13 @@ greater-requires : tie.Need-greater-requires
 greater-requires c κs =
     let z = c.before.before in
     let F = machine z.args.wide in
-    (c.add.ensures.number, number_of F z.args.i.low (finite_both F z.args.i z.requires.1).0)
+    (c.add.ensures.number, number_of F z.args.i.low (ends_both F z.args.i z.requires.1).0)
 
 lesser-requires : tie.Need-lesser-requires
 lesser-requires c κs =
     let z = c.before.before.before in
     let F = machine z.args.wide in
-    let e = finite_both F z.args.i z.requires.1 in
+    let e = ends_both F z.args.i z.requires.1 in
     let d = c.before.add.result in
     let l = z.args.i.low in
     (chosen (λ (p : ℕ). is_number F p ≡ true) (leb (ordinal F d) (ordinal F l)) c.greater.result l d c.greater.ensures (number_of F l e.0) c.before.add.ensures.number, number_of F z.args.i.high e.1)

@@ -1,12 +1,12 @@
 -- `machine::end::witness` meets its contract. Assumes nothing.
+use Rattle.arith.proofs.Intervals.{ends_both}
 use Rattle.machine.specs.Floats.{machine}
-use Rattle.machine.proofs.Floats.{finite_both}
 use Rattle.machine.proofs.KnownEnds.{low_made, swapped}
 use Rattle.machine.proofs.end.witness.Statement.{statement}
 use Rattle.machine.proofs.end.witness.Tie as tie
 
 reaches-requires : tie.Need-reaches-requires
-reaches-requires c κs = ((finite_both (machine c.args.wide) c.args.x c.requires.0).0, c.requires.1, c.requires.2, c.requires.4)
+reaches-requires c κs = ((ends_both (machine c.args.wide) c.args.x c.requires.0).0, c.requires.1, c.requires.2, c.requires.4)
 
 returns : tie.Need-returns
 returns c t =
@@ -17,7 +17,7 @@ returns c t =
 reaches-requires-2 : tie.Need-reaches-requires-2
 reaches-requires-2 c κs =
     let z = c.before.before in
-    ((finite_both (machine z.args.wide) z.args.a z.requires.1).0, z.requires.0, z.requires.2, z.requires.3)
+    ((ends_both (machine z.args.wide) z.args.a z.requires.1).0, z.requires.0, z.requires.2, z.requires.3)
 
 returns-2 : tie.Need-returns-2
 returns-2 c t =

@@ -3,10 +3,11 @@ use mathlib.Core.Path.{◌≡◌, sym, ◌∙◌}
 use mathlib.Core.Bool.{true, true≢false}
 use borrow.Author.Rules.{rules}
 use borrow.Author.Tests.{not-false}
-use Rattle.ladder.proofs.Ordinals.{finite_number}
-use Rattle.arith.specs.Formats.{is_finite, is_number}
-use Rattle.machine.specs.Floats.{machine}
-use Rattle.machine.proofs.Floats.{sound_machine, fits_width, finite_both}
+use Rattle.ladder.proofs.Numbers.{finite_number}
+use Rattle.arith.specs.Formats.{is_finite}
+use Rattle.arith.proofs.Intervals.{ends_both}
+use Rattle.machine.specs.Floats.{machine, is_number}
+use Rattle.machine.proofs.Floats.{sound_machine, fits_width}
 use Rattle.machine.proofs.Gridding.{passes_over, passes_under}
 use Rattle.machine.proofs.grid.passes.Statement.{statement}
 use Rattle.machine.proofs.grid.passes.Tie as tie
@@ -15,7 +16,7 @@ use Rattle.machine.proofs.grid.passes.Tie as tie
 numbers : (c : tie.Start) → let F = machine c.args.wide in (is_number F c.args.u ≡ true) × (is_number F c.args.b.low ≡ true) × (is_number F c.args.b.high ≡ true)
 numbers c =
     let F = machine c.args.wide in
-    let e = finite_both F c.args.b c.requires.2 in
+    let e = ends_both F c.args.b c.requires.2 in
     (finite_number F.fraction F.exponent _ c.requires.1, finite_number F.fraction F.exponent _ e.0, finite_number F.fraction F.exponent _ e.1)
 
 -- s is finite, past the first test

@@ -3,10 +3,11 @@ use mathlib.Core.Path.{◌≡◌}
 use mathlib.Core.Bool.{true, not}
 use Prim.Native.Nat.{ℕ}
 use borrow.Author.Rules.{rules}
-use Rattle.ladder.proofs.Ordinals.{finite_number}
-use Rattle.arith.specs.Formats.{is_finite, is_number}
-use Rattle.machine.specs.Floats.{machine}
-use Rattle.machine.proofs.Floats.{sound_machine, chosen, finite_both}
+use Rattle.ladder.proofs.Numbers.{finite_number}
+use Rattle.arith.specs.Formats.{is_finite}
+use Rattle.arith.proofs.Intervals.{ends_both}
+use Rattle.machine.specs.Floats.{machine, is_number}
+use Rattle.machine.proofs.Floats.{sound_machine, chosen}
 use Rattle.machine.proofs.Guesses.{trimmed}
 use Rattle.machine.proofs.guess.trim.Statement.{statement}
 use Rattle.machine.proofs.guess.trim.Tie as tie
@@ -25,8 +26,8 @@ record Given (c : tie.Start) : Type 0 where
 given : (c : tie.Start) → Given c
 given c =
     let F = machine c.args.wide in
-    let b = finite_both F c.args.b c.requires.2 in
-    let h = finite_both F c.args.h c.requires.3 in
+    let b = ends_both F c.args.b c.requires.2 in
+    let h = ends_both F c.args.h c.requires.3 in
     record {
       x = finite_number F.fraction F.exponent c.args.x c.requires.0;
       a = finite_number F.fraction F.exponent c.args.a c.requires.1;

@@ -2,7 +2,7 @@
 use mathlib.Core.Path.{ap₂, ◌∙◌}
 use mathlib.Core.Bool.{◌&&◌}
 use borrow.Author.Rules.{rules}
-use Rattle.machine.specs.Floats.{ends_finite}
+use Rattle.arith.specs.Intervals.{ends_finite}
 use Rattle.machine.proofs.shortcut.ends_finite_at.Statement.{statement}
 use Rattle.machine.proofs.shortcut.ends_finite_at.Tie as tie
 

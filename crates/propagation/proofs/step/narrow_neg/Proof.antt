@@ -15,7 +15,7 @@ by_mirror width false x a b n e = e
 by_mirror width true x a b n e = absurd (let z : ◌≡◌ {A = ℕ} 0 1 = cc in omega arith)
 
 -- r is the pair of x with zero, and t is r
-by_zero : (width : ℕ) (one : Bool) (x a b : Interval) {r t : Paired} → not one ≡ false → r ≡ zero_answer width x → r ≡ t → both_by b t ≡ neg_answer width one x a b
+by_zero : (width : ℕ) (one : Bool) (x a b : Interval) {r t : Paired} → not one ≡ false → r ≡ zero_answer width x x → r ≡ t → both_by b t ≡ neg_answer width one x a b
 by_zero width true x a b n e g = ap (both_by b) (sym g ∙ e)
 by_zero width false x a b n e g = absurd (let z : ◌≡◌ {A = ℕ} 0 1 = cc in omega arith)
 
@@ -27,14 +27,14 @@ returns-2 c =
     let k = c.before in
     let n = k.before.before in
     let a = n.before.before.args in
-    by_zero a.width a.one a.x a.a a.b n.before.if1.false n.zero-alone.ensures k.q.given.1
+    by_zero a.width a.one a.x a.a a.b n.before.if1.false n.with-zero.ensures k.q.given.1
 
 returns-3 : tie.Need-returns-3
 returns-3 c =
     let k = c.before in
     let n = k.before.before in
     let a = n.before.before.args in
-    by_zero a.width a.one a.x a.a a.b n.before.if1.false n.zero-alone.ensures k.r.given.1
+    by_zero a.width a.one a.x a.a a.b n.before.if1.false n.with-zero.ensures k.r.given.1
 
 pub narrow-neg-spec : {M : Type 1} → statement M
 narrow-neg-spec = tie.close (tie.spec (λ c κs. tt) returns (λ c κs. tt) (λ c. c.match.keys1) (λ c. c.match.keys2) returns-2 returns-3)

@@ -17,7 +17,7 @@ returns : tie.Need-returns
 returns c =
     let k = c.before.before in
     let a = k.before.before.args in
-    by_word a.width a.kind a.alike a.x a.a a.b k.enum_told.given.1 (rw (eq-eqb _ _ c.before.if1.true) c.narrow-cancel.ensures.0)
+    by_word a.width a.kind a.alike a.x a.a a.b k.enum_told.given.1 (rw (eq-eqb _ _ c.before.if1.true) c.with-zero.ensures)
 
 returns-2 : tie.Need-returns-2
 returns-2 c =
@@ -35,7 +35,7 @@ returns-4 : tie.Need-returns-4
 returns-4 c =
     let k = c.before.before in
     let a = k.before.before.args in
-    by_word a.width a.kind a.alike a.x a.a a.b k.enum-told3.given.1 (rw (eq-eqb _ _ c.before.if2.true) c.narrow-halve.ensures.0)
+    by_word a.width a.kind a.alike a.x a.a a.b k.enum-told3.given.1 (rw (eq-eqb _ _ c.before.if2.true) c.narrow-double2.ensures.0)
 
 returns-5 : tie.Need-returns-5
 returns-5 c =
@@ -45,15 +45,9 @@ returns-5 c =
 
 returns-6 : tie.Need-returns-6
 returns-6 c =
-    let k = c.before.before in
+    let k = c.before in
     let a = k.before.before.args in
-    by_word a.width a.kind a.alike a.x a.a a.b k.enum-told4.given.1 (rw (eq-eqb _ _ c.before.if3.true) c.zero-alone.ensures)
-
-returns-7 : tie.Need-returns-7
-returns-7 c =
-    let k = c.before.before in
-    let a = k.before.before.args in
-    by_word a.width a.kind a.alike a.x a.a a.b k.enum-told4.given.1 (rw (ne_eqb _ _ c.before.if3.false) c.still-alone.ensures)
+    by_word a.width a.kind a.alike a.x a.a a.b k.enum-told4.given.1 c.with-zero2.ensures
 
 pub narrow-two-spec : {M : Type 1} → statement M
 narrow-two-spec =
@@ -69,11 +63,9 @@ narrow-two-spec =
     (λ c κs. tt)
     (λ c. c.match.keys4)
     (λ c κs. tt)
-    (λ c κs. tt)
     returns
     returns-2
     returns-3
     returns-4
     returns-5
-    returns-6
-    returns-7)
+    returns-6)

@@ -4,23 +4,23 @@ use mathlib.Core.Bool.{true}
 use borrow.Author.Rules.{rules}
 use Rattle.arith.specs.declared.narrow.Narrowed.TheVariants.{Ends, Refused}
 use Rattle.arith.specs.Formats.{format_of}
-use Rattle.arith.specs.Intervals.{ends_number}
+use Rattle.arith.specs.Intervals.{ends_finite}
 use Rattle.arith.specs.Narrows.{narrow_of}
 use Rattle.tazsmibor.specs.Floating.{floats_told}
-use Rattle.arith.proofs.Callers.{narrow_answered, answered_numbers}
+use Rattle.arith.proofs.Callers.{narrow_answered, answered_finite}
 use Rattle.tazsmibor.proofs.Floating.{floats_ends, floats_none, floats_refused, floats_told_lem}
 use Rattle.arith.proofs.Replies.{told_too}
 use Rattle.tazsmibor.proofs.floats.narrow_floats.Statement.{statement}
 use Rattle.tazsmibor.proofs.floats.narrow_floats.Tie as tie
 
--- the ends of the answer are numbers
+-- the answer has finite ends
 ends-are : (c : tie.After-known-told) → let a = c.before.before.before.before.args in Ends c.before.p.given.0.0 c.before.p.given.0.1.0 c.before.p.given.0.1.1.0 ≡ narrow_of 64 a.x a.a a.b
 ends-are c = rw c.before.p.given.1 at c.before.before.before.narrow.ensures.0
 
-numbers : (c : tie.After-known-told) → let F = format_of 64 in (ends_number F c.before.p.given.0.0 ≡ true) × (ends_number F c.before.p.given.0.1.0 ≡ true) × (ends_number F c.before.p.given.0.1.1.0 ≡ true)
-numbers c =
+finite : (c : tie.After-known-told) → let F = format_of 64 in (ends_finite F c.before.p.given.0.0 ≡ true) × (ends_finite F c.before.p.given.0.1.0 ≡ true) × (ends_finite F c.before.p.given.0.1.1.0 ≡ true)
+finite c =
     let a = c.before.before.before.before.args in
-    answered_numbers 64 a.x a.a a.b _ _ _ (narrow_answered 64 a.x a.a a.b _ _ _ (sym (ends-are c)))
+    answered_finite 64 a.x a.a a.b _ _ _ (narrow_answered 64 a.x a.a a.b _ _ _ (sym (ends-are c)))
 
 narrow-requires : tie.Need-narrow-requires
 narrow-requires c κs = search rules
@@ -29,13 +29,13 @@ enum-known-p : tie.Need-enum-known-p
 enum-known-p c = search rules
 
 floats-of-requires : tie.Need-floats-of-requires
-floats-of-requires c κs = (numbers c).0
+floats-of-requires c κs = (finite c).0
 
 floats-of-requires-2 : tie.Need-floats-of-requires-2
-floats-of-requires-2 c κs = (numbers c.before).1
+floats-of-requires-2 c κs = (finite c.before).1
 
 floats-of-requires-3 : tie.Need-floats-of-requires-3
-floats-of-requires-3 c κs = (numbers c.before.before).2
+floats-of-requires-3 c κs = (finite c.before.before).2
 
 enum-known-refusal : tie.Need-enum-known-refusal
 enum-known-refusal c = search rules
