@@ -7,7 +7,6 @@ use Rattle.arith.specs.declared.format.Format.{Format}
 use Rattle.arith.specs.declared.range.Range.{Range}
 use Rattle.arith.specs.declared.corner.Operands.{Operands}
 use Rattle.arith.specs.declared.corner.Corner.{Corner}
-use Rattle.arith.specs.declared.corner.Corner.TheVariants as Corner
 use Rattle.arith.specs.Formats.{Sound}
 use Rattle.arith.specs.Intervals.{Bounded, span}
 use Rattle.arith.specs.Searches.{CornerOf, SameTriples}

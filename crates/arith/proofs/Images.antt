@@ -1,5 +1,5 @@
 -- An interval's own tests, 2 for its ends and 3 for their order, and after them its image. Assumes nothing.
-use Rattle.std.proofs.Common.{◌≡◌, Bool, true, false, not, ap, ◌∙◌}
+use Rattle.std.proofs.Common.{◌≡◌, Bool, true, false, ap, ◌∙◌}
 use Rattle.arith.specs.declared.format.Format.{Format}
 use Rattle.arith.specs.declared.range.Range.{Range}
 use Rattle.arith.specs.declared.refusal.Refusal.{Refusal}
@@ -15,9 +15,9 @@ abbrev image_of : Format → Interval → Range → Image
 image_of F I P = or_refuse Refused (ends_finite F I) 2 (or_refuse Refused (is_ordered (range_of F I)) 3 (Is (interval_of F P)))
 
 -- what the calls gave: both ends are finite, the range is R, and o says whether it is ordered
-module _ (F : Format) (I : Interval) {f o : Bool} {R : Range} (e : f ≡ ends_finite F I) (h : not f ≡ false) (r : R ≡ range_of F I) (p : o ≡ is_ordered R) where
-  pub reversed : (P : Range) {q : Refusal} → not o ≡ true → q ≡ refusal 3 → Refused q ≡ image_of F I P
+module _ (F : Format) (I : Interval) {f o : Bool} {R : Range} (e : f ≡ ends_finite F I) (h : f ≡ true) (r : R ≡ range_of F I) (p : o ≡ is_ordered R) where
+  pub reversed : (P : Range) {q : Refusal} → o ≡ false → q ≡ refusal 3 → Refused q ≡ image_of F I P
   reversed P t d = passed Refused 2 _ _ (holds e h) (refused Refused 3 _ _ d (fails (p ∙ ap is_ordered r) t))
 
-  pub imaged : (P : Range) {J : Interval} → not o ≡ false → J ≡ interval_of F P → Is J ≡ image_of F I P
+  pub imaged : (P : Range) {J : Interval} → o ≡ true → J ≡ interval_of F P → Is J ≡ image_of F I P
   imaged P l j = passed Refused 2 _ _ (holds e h) (passed Refused 3 _ _ (holds (p ∙ ap is_ordered r) l) (ap Is j))

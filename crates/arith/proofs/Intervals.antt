@@ -6,7 +6,6 @@ use Rattle.arith.specs.declared.format.Format.{Format}
 use Rattle.arith.specs.declared.range.Range.{Range}
 use Rattle.arith.specs.declared.interval.Interval.{Interval}
 use Rattle.arith.specs.declared.interval.Image.{Image}
-use Rattle.arith.specs.declared.interval.Image.TheVariants as Image
 use Rattle.arith.specs.declared.sum.Sum.TheVariants as Sum
 use Rattle.arith.specs.Refusals.{refusal, or_refuse}
 use Rattle.arith.specs.Formats.{is_finite, sum}

@@ -1,5 +1,5 @@
 -- A sum with one float in two places: the ranges found are the narrowing, the answer for them, and the reply that it tells. Rests on `ladder`'s Pairing and Halves.
-use Rattle.std.proofs.Common.{◌≡◌, ℕ, ◌+◌, ◌-◌, ◌<◌, ◌≤◌, Bool, true, false, not, [], ◌∷◌, sym, refl, ap, ◌∙◌, subst, ap₂, arith, leb-false, leb-true}
+use Rattle.std.proofs.Common.{◌≡◌, ℕ, ◌+◌, ◌-◌, ◌<◌, ◌≤◌, Bool, true, false, [], ◌∷◌, sym, refl, ap, ◌∙◌, subst, ap₂, arith, leb-false, leb-true}
 use Rattle.ladder.specs.Solution as L
 use Rattle.ladder.specs.Halves.{doubled}
 use Rattle.ladder.specs.Pairing.{Pairing, none, ends, pairing, doubles, absorbs, PairHull}
@@ -11,9 +11,7 @@ use Rattle.arith.specs.declared.range.Range.{Range}
 use Rattle.arith.specs.declared.refusal.Refusal.{Refusal}
 use Rattle.arith.specs.declared.interval.Interval.{Interval}
 use Rattle.arith.specs.declared.repeated.Couple.{Couple}
-use Rattle.arith.specs.declared.repeated.Couple.TheVariants as Couple
 use Rattle.arith.specs.declared.repeated.Repeat.{Repeat}
-use Rattle.arith.specs.declared.repeated.Repeat.TheVariants as Repeat
 use Rattle.arith.specs.declared.repeated.Paired.TheVariants as Paired
 use Rattle.arith.specs.Refusals.{refusal}
 use Rattle.arith.specs.Formats.{Sound, Finite, format_of, sum}
@@ -59,21 +57,21 @@ module _ (F : Format) (X B : Range) (g : BothFilled F X B) {l u : ℕ} (least : 
   abbrev doubles_of : Range → L.Interval
   doubles_of R = record { low = sum F R.low R.low; high = sum F R.high R.high }
 
-  pub double_none : not o ≡ true → coupled Couple.None ≡ doubling F X B
+  pub double_none : o ≡ false → coupled Couple.None ≡ doubling F X B
   unfolding is_ordered
   double_none t = pairing_unique (doubles f d) (span X) (span B) none (doubles_none f d some (span X) (span B) l u least greatest (leb-false _ _ (fails (p ∙ ap is_ordered e) t)))
 
-  double_hull : not o ≡ false → PairHull (doubles f d) (span X) (span B) (span cut) (doubles_of cut)
+  double_hull : o ≡ true → PairHull (doubles f d) (span X) (span B) (span cut) (doubles_of cut)
   unfolding is_ordered
   double_hull t = doubles_hull f d some (span X) (span B) l u least greatest (leb-true _ _ (holds (p ∙ ap is_ordered e) t))
 
   -- which are finite
-  pub double_finite : not o ≡ false → L.Bounded f d (doubles_of C)
+  pub double_finite : o ≡ true → L.Bounded f d (doubles_of C)
   double_finite t =
       subst (λ (D : Range). L.Bounded f d (doubles_of D)) (sym e)
       (pair_bounded (doubles f d) (span X) (span B) (span cut) (doubles_of cut) (double_hull t) g.first.ends g.second.ends).1
 
-  pub double_ends : not o ≡ false → {r s : ℕ} → r ≡ sum F C.low C.low → s ≡ sum F C.high C.high → coupled (Couple.Ends C (record { low = r; high = s })) ≡ doubling F X B
+  pub double_ends : o ≡ true → {r s : ℕ} → r ≡ sum F C.low C.low → s ≡ sum F C.high C.high → coupled (Couple.Ends C (record { low = r; high = s })) ≡ doubling F X B
   double_ends t {r} {s} v w =
       ap₂ (λ (y z : ℕ). let q : L.Interval = record { low = y; high = z } in ends (span C) q) v w
       ∙ ap (λ (D : Range). ends (span D) (doubles_of D)) e

@@ -7,7 +7,6 @@ use Rattle.ladder.proofs.Ordinals.{ordinal_pattern}
 use Rattle.arith.specs.declared.refusal.Refusal.{Refusal}
 use Rattle.arith.specs.declared.interval.Interval.{Interval}
 use Rattle.arith.specs.declared.interval.Cut.{Cut}
-use Rattle.arith.specs.declared.interval.Cut.TheVariants as Cut
 use Rattle.arith.specs.declared.interval.Image.{Image}
 use Rattle.arith.specs.declared.interval.Image.TheVariants.{Is, Refused}
 use Rattle.arith.specs.Refusals.{refusal, or_refuse}

@@ -3,15 +3,10 @@ use Rattle.std.specs.Prelude.{ℕ, List, [], ◌∷◌, ◌++◌}
 use Rattle.arith.specs.declared.refusal.Refusal.{Refusal}
 use Rattle.arith.specs.declared.interval.Interval.{Interval}
 use Rattle.arith.specs.declared.sum.Sum.{Sum}
-use Rattle.arith.specs.declared.sum.Sum.TheVariants as Sum
 use Rattle.arith.specs.declared.interval.Cut.{Cut}
-use Rattle.arith.specs.declared.interval.Cut.TheVariants as Cut
 use Rattle.arith.specs.declared.interval.Image.{Image}
-use Rattle.arith.specs.declared.interval.Image.TheVariants as Image
 use Rattle.arith.specs.declared.narrow.Narrowed.{Narrowed}
-use Rattle.arith.specs.declared.narrow.Narrowed.TheVariants as Narrowed
 use Rattle.arith.specs.declared.repeated.Paired.{Paired}
-use Rattle.arith.specs.declared.repeated.Paired.TheVariants as Paired
 
 -- ---- a reply
 -- 01's number, 0 where nothing is refused; the place; the values, none with a refusal

@@ -6,9 +6,7 @@ use Rattle.arith.specs.declared.range.Range.{Range}
 use Rattle.arith.specs.declared.interval.Interval.{Interval}
 use Rattle.arith.specs.declared.interval.Cut.{Cut}
 use Rattle.arith.specs.declared.interval.Cut.TheVariants.{Shared, Empty}
-use Rattle.arith.specs.declared.interval.Cut.TheVariants as Cut
 use Rattle.arith.specs.declared.interval.Image.{Image}
-use Rattle.arith.specs.declared.interval.Image.TheVariants as Image
 use Rattle.arith.specs.Refusals.{or_refuse}
 use Rattle.arith.specs.Formats.{is_known, format_of, is_finite, ordinal, pattern, negated, sum, mirrored}
 use Rattle.arith.specs.Sums.{is_finite_ordinal}

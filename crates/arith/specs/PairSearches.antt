@@ -7,9 +7,7 @@ use Rattle.ladder.specs.Pairing.{Pairing, none, ends}
 use Rattle.arith.specs.declared.format.Format.{Format}
 use Rattle.arith.specs.declared.range.Range.{Range}
 use Rattle.arith.specs.declared.repeated.Couple.{Couple}
-use Rattle.arith.specs.declared.repeated.Couple.TheVariants as Couple
 use Rattle.arith.specs.declared.repeated.Repeat.{Repeat}
-use Rattle.arith.specs.declared.repeated.Repeat.TheVariants as Repeat
 use Rattle.arith.specs.Formats.{Sound, Finite, sum}
 use Rattle.arith.specs.Intervals.{Bounded, span}
 use Rattle.arith.specs.Repeats.{Relation, doubling, absorbing}

@@ -7,12 +7,9 @@ use Rattle.ladder.specs.Search as S
 use Rattle.arith.specs.declared.format.Format.{Format}
 use Rattle.arith.specs.declared.range.Range.{Range}
 use Rattle.arith.specs.declared.operand.Found.{Found}
-use Rattle.arith.specs.declared.operand.Found.TheVariants as Found
 use Rattle.arith.specs.declared.corner.Operands.{Operands}
 use Rattle.arith.specs.declared.corner.Corner.{Corner}
-use Rattle.arith.specs.declared.corner.Corner.TheVariants as Corner
 use Rattle.arith.specs.declared.narrow.Ranges.{Ranges}
-use Rattle.arith.specs.declared.narrow.Ranges.TheVariants as Ranges
 use Rattle.arith.specs.Intervals.{span, Bounded}
 
 -- ---- the ends of what has a property

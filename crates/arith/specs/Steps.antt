@@ -12,12 +12,9 @@ use Rattle.arith.specs.declared.sum.ExactSum.{ExactSum}
 use Rattle.arith.specs.declared.sum.Rounded.{Rounded}
 use Rattle.arith.specs.declared.sum.Rounding.{Rounding}
 use Rattle.arith.specs.declared.sum.Tested.{Tested}
-use Rattle.arith.specs.declared.sum.Tested.TheVariants as Tested
 use Rattle.arith.specs.declared.sum.Addition.{Addition}
 use Rattle.arith.specs.declared.sum.Sum.{Sum}
-use Rattle.arith.specs.declared.sum.Sum.TheVariants as Sum
 use Rattle.arith.specs.declared.interval.Image.{Image}
-use Rattle.arith.specs.declared.interval.Image.TheVariants as Image
 use Rattle.arith.specs.Refusals.{refusal}
 use Rattle.arith.specs.Formats.{Sound, is_finite, pattern, sum}
 use Rattle.arith.specs.Exacts.{Amounts, Roundable, size_of, rounding_of}

@@ -11,14 +11,14 @@ use crate::range::Range;
 use crate::sum::sum_of;
 
 // The ranges of both operands.
-#[derive(Drop)]
+#[derive(Clone, Copy)]
 pub(crate) struct Operands {
     pub(crate) x: Range,
     pub(crate) a: Range,
 }
 
 // The triple with the least x and the greatest a, or that there is none.
-#[derive(Drop)]
+#[derive(Clone, Copy)]
 pub(crate) enum Corner {
     At { x: u64, a: u64, b: u64 },
     Absent,

@@ -2,7 +2,7 @@
 ghost use Rattle.std.specs.Prelude.{◌≡◌};
 ghost use Rattle.arith.specs.Formats.{is_known, format_of};
 
-#[derive(Drop)]
+#[derive(Clone, Copy)]
 pub struct Format {
     pub fraction: u64,
     pub exponent: u64,

@@ -14,14 +14,14 @@ use crate::refusal::{Refusal, refuse};
 use crate::sum::{Sum, add_finite};
 
 // The floats from low to high, by their patterns.
-#[derive(Drop)]
+#[derive(Clone, Copy)]
 pub struct Interval {
     pub low: u64,
     pub high: u64,
 }
 
 // What two intervals share, or that they share nothing.
-#[derive(Drop)]
+#[derive(Clone, Copy)]
 pub enum Cut {
     Shared(Interval),
     Empty,
@@ -29,7 +29,7 @@ pub enum Cut {
 }
 
 // An interval in canonical patterns, shifted or mirrored.
-#[derive(Drop)]
+#[derive(Clone, Copy)]
 pub enum Image {
     Is(Interval),
     Refused(Refusal),
@@ -193,7 +193,7 @@ impl Interval {
     // The interval with its ends in canonical patterns; refusals 1, 2 for low then high, 3.
     pub fn canonical(self, width: u64) -> Image
         ensures value { result ≡ canonical_of width self }
-        ensures result_value { image_told result ≡ reply_after (own_tests width self) (canonical_values width self) }
+        ensures reply { image_told result ≡ reply_after (own_tests width self) (canonical_values width self) }
     {
         if !known(width) {
             return Image::Refused(refuse(1));
@@ -204,7 +204,7 @@ impl Interval {
     // What the interval shares with another; refusals 1, 2 for the own ends then the other's, 3 for the own then the other.
     pub fn cut(self, width: u64, other: Interval) -> Cut
         ensures value { result ≡ cut_of width self other }
-        ensures result_value { cut_told result ≡ reply_after (cut_tests width self other) (cut_values width self other) }
+        ensures reply { cut_told result ≡ reply_after (cut_tests width self other) (cut_values width self other) }
     {
         if !known(width) {
             return Cut::Refused(refuse(1));
@@ -215,7 +215,7 @@ impl Interval {
     // From low + c to high + c, each sum rounded; refusals 1, 2 for the ends then c, 3, 9.
     pub fn shift(self, width: u64, c: u64) -> Image
         ensures value { result ≡ shift_of width self c }
-        ensures result_value { image_told result ≡ reply_after (shift_tests width self c) (shift_values width self c) }
+        ensures reply { image_told result ≡ reply_after (shift_tests width self c) (shift_values width self c) }
     {
         if !known(width) {
             return Image::Refused(refuse(1));
@@ -233,7 +233,7 @@ impl Interval {
     // From -high to -low; refusals 1, 2, 3.
     pub fn mirror(self, width: u64) -> Image
         ensures value { result ≡ mirror_of width self }
-        ensures result_value { image_told result ≡ reply_after (own_tests width self) (mirror_values width self) }
+        ensures reply { image_told result ≡ reply_after (own_tests width self) (mirror_values width self) }
     {
         if !known(width) {
             return Image::Refused(refuse(1));

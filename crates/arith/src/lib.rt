@@ -1,4 +1,6 @@
 // Arithmetic on binary floating-point patterns at both widths: the forward sum, intervals and the narrowing of one sum, also with one float in two places. All in integers, so that no answer depends on a floating-point environment. Rests on the crate `ladder`.
+#![tactic(auto)]
+
 mod absorb;
 mod clamp;
 mod corner;

@@ -15,7 +15,7 @@ use crate::range::{Range, ordered};
 use crate::refusal::{Refusal, refuse};
 
 // The three intervals narrowed, or the refusal.
-#[derive(Drop)]
+#[derive(Clone, Copy)]
 pub enum Narrowed {
     Ends {
         x: Interval,
@@ -26,7 +26,7 @@ pub enum Narrowed {
 }
 
 // The three ranges narrowed, or that there is no triple.
-#[derive(Drop)]
+#[derive(Clone, Copy)]
 pub(crate) enum Ranges {
     None,
     Ends { x: Range, a: Range, b: Range },
@@ -125,7 +125,7 @@ fn narrow_in(format: Format, x: Interval, a: Interval, b: Interval) -> Narrowed
 // The ends of x, a and b that stand in triples; refusals 1, 2 for x, a, b, 3 for x, a, b, 11, in this order.
 pub fn narrow(width: u64, x: Interval, a: Interval, b: Interval) -> Narrowed
     ensures value { result ≡ narrow_of width x a b }
-    ensures result_value { narrowed_told result ≡ reply_after (narrow_tests width x a b) (narrow_values width x a b) }
+    ensures reply { narrowed_told result ≡ reply_after (narrow_tests width x a b) (narrow_values width x a b) }
 {
     if !known(width) {
         return Narrowed::Refused(refuse(1));

@@ -8,7 +8,7 @@ use crate::range::{Range, mirror_of, reflect};
 use crate::threshold::threshold;
 
 // The number asked for, or that there is none.
-#[derive(Drop)]
+#[derive(Clone, Copy)]
 pub(crate) enum Found {
     At(u64),
     Absent,

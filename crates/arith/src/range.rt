@@ -5,7 +5,7 @@ ghost use Rattle.arith.specs.Intervals.{Bounded, is_ordered, common, reflected};
 
 use crate::format::Format;
 
-#[derive(Drop)]
+#[derive(Clone, Copy)]
 pub(crate) struct Range {
     pub(crate) low: u64,
     pub(crate) high: u64,

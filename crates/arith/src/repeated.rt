@@ -15,21 +15,21 @@ use crate::range::{Range, min, mirror_of, ordered, reflect, shared};
 use crate::refusal::{Refusal, refuse};
 
 // The two intervals narrowed, or the refusal.
-#[derive(Drop)]
+#[derive(Clone, Copy)]
 pub enum Paired {
     Ends { p: Interval, q: Interval },
     Refused(Refusal),
 }
 
 // The two ranges narrowed, or that no two values are left.
-#[derive(Drop)]
+#[derive(Clone, Copy)]
 pub(crate) enum Couple {
     None,
     Ends { p: Range, q: Range },
 }
 
 // Which two places hold one float: x (+) x = b, or x (+) a = x.
-#[derive(Drop)]
+#[derive(Clone, Copy)]
 pub(crate) enum Repeat {
     Doubles,
     Absorbs,
@@ -186,7 +186,7 @@ fn narrow_pair(width: u64, by: Repeat, i: Interval, j: Interval) -> Paired
 // The ends of x and b that stand in x (+) x = b; refusals 1, 2 for x, b, 3 for x, b, 11, in this order.
 pub fn narrow_double(width: u64, x: Interval, b: Interval) -> Paired
     ensures value { result ≡ pair_of doubling width x b }
-    ensures result_value { paired_told result ≡ pair_reply doubling width x b }
+    ensures reply { paired_told result ≡ pair_reply doubling width x b }
 {
     narrow_pair(width, Repeat::Doubles, x, b)
 }
@@ -194,7 +194,7 @@ pub fn narrow_double(width: u64, x: Interval, b: Interval) -> Paired
 // The ends of x and a that stand in x (+) a = x; refusals 1, 2 for x, a, 3 for x, a, 11, in this order.
 pub fn narrow_absorb(width: u64, x: Interval, a: Interval) -> Paired
     ensures value { result ≡ pair_of absorbing width x a }
-    ensures result_value { paired_told result ≡ pair_reply absorbing width x a }
+    ensures reply { paired_told result ≡ pair_reply absorbing width x a }
 {
     narrow_pair(width, Repeat::Absorbs, x, a)
 }

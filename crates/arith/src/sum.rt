@@ -16,21 +16,21 @@ use crate::remainder::left_over;
 use crate::words::{digits, dropped, shift_left, shift_right, sticky};
 
 // A float by its sign bit, at its weight where it is set and else 0, and m, its pattern without the sign bit.
-#[derive(Drop)]
+#[derive(Clone, Copy)]
 pub(crate) struct Signed {
     pub(crate) sign: u64,
     pub(crate) m: u64,
 }
 
 // significand * 2^shift units.
-#[derive(Drop)]
+#[derive(Clone, Copy)]
 pub(crate) struct Scaled {
     pub(crate) significand: u64,
     pub(crate) shift: u64,
 }
 
 // The size of an exact sum: larger * 2^gap with smaller added, or taken away where the signs are opposite, all times 2^shift units.
-#[derive(Drop)]
+#[derive(Clone, Copy)]
 pub(crate) struct Exact {
     pub(crate) opposite: bool,
     pub(crate) larger: u64,
@@ -40,35 +40,35 @@ pub(crate) struct Exact {
 }
 
 // An exact sum: its sign, as a float has it, and its size.
-#[derive(Drop)]
+#[derive(Clone, Copy)]
 pub(crate) struct ExactSum {
     pub(crate) sign: u64,
     pub(crate) size: Exact,
 }
 
 // A number of units rounded: its m, and whether nothing was lost.
-#[derive(Drop)]
+#[derive(Clone, Copy)]
 pub(crate) struct Rounded {
     pub(crate) m: u64,
     pub(crate) exact: bool,
 }
 
 // A number of units rounded, and the result taken apart.
-#[derive(Drop)]
+#[derive(Clone, Copy)]
 pub(crate) struct Rounding {
     pub(crate) result: Rounded,
     pub(crate) kept: Scaled,
 }
 
 // What the range test leaves: the sum with its mark, or that it overflows, to the infinity of its sign.
-#[derive(Drop)]
+#[derive(Clone, Copy)]
 pub(crate) enum Tested {
     Finite { sum: Signed, mark: u64 },
     Overflow { infinity: Signed },
 }
 
 // A sum by its three steps.
-#[derive(Drop)]
+#[derive(Clone, Copy)]
 pub(crate) struct Addition {
     pub(crate) exact: ExactSum,
     pub(crate) rounding: Rounding,
@@ -76,7 +76,7 @@ pub(crate) struct Addition {
 }
 
 // The sum's pattern, its mark (0 exact, 1 rounded, 2 rounded and subnormal) and the pattern of what rounding left over, or the refusal.
-#[derive(Drop)]
+#[derive(Clone, Copy)]
 pub enum Sum {
     Is {
         pattern: u64,

@@ -10,7 +10,7 @@ use crate::sum::{Exact, Rounded, combine, scale};
 use crate::words::{digits, dropped, shift_left, shift_right};
 
 // An exact difference: whether it is below zero, and its size.
-#[derive(Drop)]
+#[derive(Clone, Copy)]
 pub(crate) struct Difference {
     pub(crate) negative: bool,
     pub(crate) size: Exact,

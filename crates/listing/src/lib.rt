@@ -1,4 +1,6 @@
 // Writes 01's listing into lent buffers: of a kept sheet, narrowed, and of a sheet text. Rests on the crates `arith`, `sheet`, `propagation` and `reader`.
+#![tactic(auto)]
+
 mod digits;
 pub mod from_text;
 mod lines;

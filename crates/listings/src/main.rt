@@ -1,4 +1,6 @@
 // Prints the listings of 01's other sheets, of sheets with records of each kind, with a cell named more than once, and of a text for each refusal, then what the reader gives of some texts, all held to the stored output. Thin over the crates `listing` and `reader`.
+#![tactic(auto)]
+
 mod records;
 
 use libc::STDOUT_FILENO;

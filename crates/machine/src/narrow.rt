@@ -12,7 +12,7 @@ use arith::refusal::refuse;
 // The ends of x, a and b that stand in triples; refusals 1, 2 for x, a, b, 3 for x, a, b, 11, in this order.
 pub fn narrow(width: u64, x: Interval, a: Interval, b: Interval) -> Narrowed
     ensures value { result ≡ narrow_of width x a b }
-    ensures result_value { narrowed_told result ≡ reply_after (narrow_tests width x a b) (narrow_values width x a b) }
+    ensures reply { narrowed_told result ≡ reply_after (narrow_tests width x a b) (narrow_values width x a b) }
 {
     let s = shortcut_at(width, x, a, b);
     let p = s.x;

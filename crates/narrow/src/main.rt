@@ -1,4 +1,6 @@
 // Reads a sheet text from standard input and prints its listing. Thin over the crate `listing`. A read or a write that fails is told on standard error; after a failed read there is no listing.
+#![tactic(auto)]
+
 ghost use Rattle.std.specs.Prelude.{◌≤◌, length};
 ghost use Rattle.io.specs.Counts.{IsPrefixLen};
 

@@ -165,7 +165,7 @@ fn admit(l: Line, line: u64, c: Cursor) -> Step
 // The record at the cursor with the cursor after it, the end of the text, or the refusal due there.
 pub fn next(text: &[u8], c: Cursor) -> Step
     ensures value { result ≡ next_of text.now c }
-    ensures result_value { step_told result ≡ reply_next text.now c }
+    ensures reply { step_told result ≡ reply_next text.now c }
 {
     if 8192 < text.len() {
         return refuse_at(8, 0);

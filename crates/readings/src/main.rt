@@ -1,4 +1,6 @@
 // Test program: 01's readings of sums, intervals and narrowings, a line each. What it writes is held to the file `stdout`.
+#![tactic(auto)]
+
 mod floats;
 mod intervals;
 mod narrowings;

@@ -1,4 +1,6 @@
 // Test program: kept sheets made call by call and written, kept sheets of garbage, and lent lists, each beside the kept sheet of the same cells and records: 01's sheets, records of each kind, records that name a cell more than once, and lists of many lengths. What it writes is held to the file `stdout`.
+#![tactic(auto)]
+
 mod building;
 mod cases;
 mod compare;

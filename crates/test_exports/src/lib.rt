@@ -1,4 +1,6 @@
 // The forward sum for C, for the native tests and the benchmark alone. Rests on the contracts of the crate `arith`.
+#![tactic(auto)]
+
 ghost use Rattle.test_exports.specs.Exports.{ExportsSum};
 
 use arith::sum::{Sum, add};

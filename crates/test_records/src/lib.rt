@@ -1,4 +1,6 @@
 // One record over three cells, narrowed for C, for the native tests alone. Rests on the contracts of the crates `arith`, `sheet` and `propagation`.
+#![tactic(auto)]
+
 ghost use Rattle.std.specs.Prelude.{◌≡◌};
 ghost use Rattle.propagation.specs.Calls.{outcome_number};
 ghost use Rattle.test_records.specs.Records.{sheet_with, ends_of, NarrowsRecord};
@@ -11,7 +13,7 @@ use sheet::kept::{Record, Sheet, blank_sheet};
 // The sheet of three cells, by their low and high ends in turn, and one record, with pass limit 1; nothing is tested, and its ends are those given.
 fn sheet_with(width: u64, ends: [u64; 6], record: Record) -> Sheet
     ensures value { result ≡ sheet_with width ends «record» }
-    ensures result_value { ends_of result ≡ ends }
+    ensures own_ends { ends_of result ≡ ends }
 {
     let mut sheet = blank_sheet(width, 1);
     sheet.cell_count = 3;

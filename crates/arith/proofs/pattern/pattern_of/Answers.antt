@@ -1,0 +1,14 @@
+-- `arith::pattern::pattern_of` meets its contract. Assumes nothing.
+use Rattle.std.proofs.Common.{arith}
+use Rattle.arith.proofs.Formats.{infinity_lt, pattern_low, pattern_high}
+use Rattle.arith.proofs.pattern.pattern_of.Goals as goal
+
+pub overflow_add-result : goal.overflow_add-result
+overflow_add-result c =
+    omega (arith, c.requires.0.sign, c.requires.0.infinity, c.requires.0.word, c.requires.1.low, infinity_lt c.args.format c.requires.0)
+
+pub returns-then-r-format : goal.returns-then-r-format
+returns-then-r-format c = pattern_low _ c.requires.0 _ c.if-r-format.true
+
+pub returns : goal.returns
+returns c = pattern_high _ c.requires.0 _ c.if-r-format.false
