@@ -10,7 +10,7 @@ use arith::narrow::{Narrowed, narrow};
 use arith::refusal::Refusal;
 
 // An interval: one float where both ends agree, two otherwise, or that there is none.
-#[derive(Drop)]
+#[derive(Clone, Copy)]
 pub enum Floats {
     Point(f64),
     Span(f64, f64),
@@ -18,7 +18,7 @@ pub enum Floats {
 }
 
 // The three intervals, or the refusal.
-#[derive(Drop)]
+#[derive(Clone, Copy)]
 pub enum FloatAnswer {
     Values { x: Floats, a: Floats, b: Floats },
     Refused(Refusal),
