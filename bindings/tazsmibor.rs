@@ -5,7 +5,7 @@
 //! Rust code keeps to; include/tazsmibor_fast.h says what is at stake where a library in C has left it.
 //!
 //! Add this file as a module (rustc 1.82 or later, edition 2021 or later, `core` alone), build the libraries with
-//! `rt staticlib tazsmibor` and `rt staticlib tazsmibor_fast`, and link with `-L target/staticlib -l static=tazsmibor`, and with
+//! `tools/build tazsmibor` and `tools/build tazsmibor_fast`, and link with `-L target/staticlib -l static=tazsmibor`, and with
 //! `-l static=tazsmibor_fast` too where a fast function is called.
 
 #![allow(dead_code)] // a program may use a part

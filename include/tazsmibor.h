@@ -1,5 +1,5 @@
 /* Narrowing of one sum x + a = b on binary floating point (IEEE 754, width 32 or 64, round to nearest, ties to even).
- * Link with libtazsmibor.a, which `rt staticlib tazsmibor` builds: code for x86-64 Linux. tazsmibor_fast.h has a faster entry that
+ * Link with libtazsmibor.a, which `tools/build tazsmibor` builds: code for x86-64 Linux. tazsmibor_fast.h has a faster entry that
  * asks more of its caller. */
 #ifndef TAZSMIBOR_H
 #define TAZSMIBOR_H

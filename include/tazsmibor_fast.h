@@ -1,5 +1,5 @@
 /* The narrowing of tazsmibor.h by the machine's floats: the same answers in less time, in the default floating-point environment.
- * Link with libtazsmibor_fast.a, which `rt staticlib tazsmibor_fast` builds: code for x86-64 Linux. */
+ * Link with libtazsmibor_fast.a, which `tools/build tazsmibor_fast` builds: code for x86-64 Linux. */
 #ifndef TAZSMIBOR_FAST_H
 #define TAZSMIBOR_FAST_H
 

@@ -9,7 +9,7 @@ use native.Mathlib.Decide.{ℕ_discrete}
 use Rattle.sheet.specs.Members.{Each, Member, here, later, SameMembers}
 
 -- what each has, a member has
-pub each_member : {A : Type 0} (P : A → Type 0) {l : List A} {y : A} → Member y l → Each P l → P y
+pub each_member : {A : Type 0} (P : A → Type 0) {y : A} {l : List A} → Member y l → Each P l → P y
 each_member P here e = e.0
 each_member P (later m) e = each_member P m e.1
 

@@ -8,7 +8,7 @@ use arith::interval::Interval;
 use arith::refusal::{Refusal, refuse};
 
 // A record over cells, by their numbers; it may name a cell more than once. Kind 0 is a sum, x + a = b; kind 1 a diff, x + (-a) = b; kind 2 a neg, a = -x, whose b is 0 and names no cell.
-#[derive(Drop)]
+#[derive(Clone, Copy)]
 pub struct Record {
     pub kind: u64,
     pub x: u64,
@@ -17,7 +17,7 @@ pub struct Record {
 }
 
 // A sheet. The first cell_count cells and the first record_count records are in use.
-#[derive(Drop)]
+#[derive(Clone, Copy)]
 pub struct Sheet {
     pub width: u64,
     pub limit: u64,
@@ -28,14 +28,14 @@ pub struct Sheet {
 }
 
 // How a call on a sheet went.
-#[derive(Drop)]
+#[derive(Clone, Copy)]
 pub enum Answer {
     Done,
     Refused(Refusal),
 }
 
 // The sheet after a call, with its answer. A refused addition, and a refused sheet that is handed in, leave it as it came; a refused opening or text gives the blank one.
-#[derive(Drop)]
+#[derive(Clone, Copy)]
 pub struct Kept {
     pub sheet: Sheet,
     pub answer: Answer,

@@ -1,4 +1,4 @@
-// The narrowing of one sum for C programs: plain numbers in, a number and the ends' bytes out.
+// The narrowing of one sum for C programs: plain numbers in, a number and the ends' bytes out. The crate `tazsmibor_c` exports it.
 ghost use Rattle.std.specs.Prelude.{◌≡◌, ◌+◌, ◌≤◌, length};
 ghost use Rattle.tazsmibor.specs.Exports.{interval, little_endian, end_bytes, six_ends, placed, export_number, export_buffer, Exports};
 
@@ -56,8 +56,7 @@ pub fn put_answer(out: &mut [u8], answer: Narrowed) -> u64
 }
 
 // 0 or the refusal number; at 0 the six ends, low then high, of x, a, b, in the first 48 bytes, 8 each, low byte first. On any refusal every byte is kept.
-#[unsafe(no_mangle)]
-pub extern "C" fn tazsmibor_narrow(
+pub fn tazsmibor_narrow(
     width: u64,
     x_low: u64,
     x_high: u64,
