@@ -1,11 +1,10 @@
 -- What an entry answers, by the narrowing's answer, is the reply due: its number, and its values in bytes. Rests on the laws of `arith` on replies.
-use mathlib.Core.Path.{◌≡◌, refl, sym, ap, ap₂, ◌∙◌}
-use mathlib.Core.Bool.{Bool, true, false, cond}
+use mathlib.Core.Path.{◌≡◌, refl, ap, ap₂, ◌∙◌}
 use mathlib.Core.List.{List, [], ◌∷◌, ◌++◌, append_assoc, append-nil}
 use Prim.Native.Nat.{ℕ, ◌<◌, ◌≤◌}
 use native.Mathlib.Omega.{arith}
 use native.Mathlib.Decide.{dec_lt}
-use lib.ListN.{length, drop}
+use lib.ListN.{length}
 use borrow.Author.Tests.{ne_eqb, lt-ltb, le-ltb, lt-leb, le-leb}
 use Rattle.ladder.specs.Narrowing.{Narrowing, none, ends}
 use Rattle.arith.specs.declared.interval.Interval.{Interval}
@@ -16,7 +15,7 @@ use Rattle.arith.specs.Narrows.{narrow_answer, narrow_finite, narrow_in, narrow_
 use Rattle.arith.specs.Answers.{Reply, two_ends}
 use Rattle.arith.specs.Replies.{reply_after, given_tests, solved, in_triples, six_patterns}
 use Rattle.arith.proofs.Replies.{after_chain}
-use Rattle.tazsmibor.specs.Exports.{interval, little_endian, end_bytes, six_ends, export_number, export_buffer, roomy, export_reply, word_bytes, stored_by, Exports}
+use Rattle.tazsmibor.specs.Exports.{interval, end_bytes, six_ends, export_number, export_buffer, roomy, export_reply, word_bytes, stored_by, Exports}
 
 -- ---- the bytes of six numbers are those of three intervals
 words_six : (x a b : Interval) → six_ends x a b ≡ word_bytes (two_ends x ++ two_ends a ++ two_ends b)

@@ -12,7 +12,6 @@ use Rattle.arith.specs.declared.format.Format.{Format}
 use Rattle.arith.specs.declared.interval.Interval.{Interval}
 use Rattle.arith.specs.declared.refusal.Refusal.{Refusal}
 use Rattle.arith.specs.declared.narrow.Narrowed.{Narrowed}
-use Rattle.arith.specs.declared.narrow.Narrowed.TheVariants as Narrowed
 use Rattle.arith.specs.Formats.{format_of}
 use Rattle.arith.specs.Intervals.{ends_finite}
 use Rattle.tazsmibor.specs.declared.floats.Floats.{Floats}

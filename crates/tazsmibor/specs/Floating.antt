@@ -5,7 +5,6 @@ use Rattle.std.specs.Float.Ieee.{of_bits, to_bits}
 use Rattle.ladder.specs.Narrowing.{Narrowing, none, ends}
 use Rattle.arith.specs.declared.interval.Interval.{Interval}
 use Rattle.arith.specs.declared.narrow.Narrowed.{Narrowed}
-use Rattle.arith.specs.declared.narrow.Narrowed.TheVariants as Narrowed
 use Rattle.arith.specs.Formats.{format_of}
 use Rattle.arith.specs.Narrows.{written, narrow_of}
 use Rattle.arith.specs.Answers.{Reply, gives, refuses, two_ends}

@@ -1,7 +1,6 @@
 -- `tazsmibor::entry::put_all` meets its contract: three intervals, one after the other. Assumes nothing.
 use mathlib.Core.Path.{ap, ◌∙◌}
 use native.Mathlib.Omega.{arith}
-use borrow.Author.Rules.{rules}
 use Rattle.tazsmibor.specs.Exports.{end_bytes, placed}
 use Rattle.tazsmibor.proofs.Placing.{placed_six}
 use Rattle.tazsmibor.proofs.entry.put_all.Goals as goal

@@ -2,7 +2,6 @@
 use mathlib.Core.Path.{ap, ◌∙◌}
 use Prim.Native.Nat.{◌+◌}
 use native.Mathlib.Omega.{arith}
-use borrow.Author.Rules.{rules}
 use Rattle.tazsmibor.specs.Exports.{little_endian, placed}
 use Rattle.tazsmibor.proofs.Placing.{placed_ends}
 use Rattle.tazsmibor.proofs.entry.put_ends.Goals as goal

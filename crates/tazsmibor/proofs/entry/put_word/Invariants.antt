@@ -1,10 +1,8 @@
 -- `tazsmibor::entry::put_word` meets its contract: the invariant: placing the bytes that are left gives the whole word placed. Assumes nothing.
-use mathlib.Core.Path.{◌≡◌, refl, sym, ap, ◌∙◌}
-use Prim.Native.Nat.{ℕ, ◌+◌, ◌-◌, ◌≤◌}
-use native.Mathlib.Omega.{arith}
-use lib.ListN.{length, length-set}
+use mathlib.Core.Path.{◌≡◌}
+use Prim.Native.Nat.{◌+◌, ◌-◌, ◌≤◌}
+use lib.ListN.{length}
 use Rattle.tazsmibor.specs.Exports.{little_endian, placed}
-use Rattle.tazsmibor.proofs.Placing.{placed_byte, placed_all}
 use Rattle.tazsmibor.proofs.entry.put_word.Given as goal
 
 abbrev pub invariant-loop-k : goal.invariant-loop-k

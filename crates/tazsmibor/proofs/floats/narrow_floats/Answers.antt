@@ -1,7 +1,6 @@
 -- `tazsmibor::floats::narrow_floats` meets its contract: the answer of the narrowing, case by case. Assumes nothing.
 use mathlib.Core.Path.{◌≡◌, sym}
 use mathlib.Core.Bool.{true}
-use borrow.Author.Rules.{rules}
 use Rattle.arith.specs.declared.narrow.Narrowed.TheVariants.{Ends, Refused}
 use Rattle.arith.specs.Formats.{format_of}
 use Rattle.arith.specs.Intervals.{ends_finite}
@@ -15,7 +14,7 @@ use Rattle.tazsmibor.proofs.floats.narrow_floats.Goals.{In-Ends}
 
 -- the answer has finite ends
 ends-are : (c : In-Ends) → let a = c.args in Ends c.in-Ends.p c.in-Ends.q c.in-Ends.r ≡ narrow_of 64 a.x a.a a.b
-ends-are c = rw c.in-Ends.is at c.narrow.ensures.0
+ends-are c = rw c.in-Ends.is at c.narrow.ensures.value
 
 finite : (c : In-Ends) → let F = format_of 64 in (ends_finite F c.in-Ends.p ≡ true) × (ends_finite F c.in-Ends.q ≡ true) × (ends_finite F c.in-Ends.r ≡ true)
 finite c =
@@ -34,17 +33,23 @@ floats_of-requires-in-Ends-2 c = (finite (goal.at.floats_of-requires-in-Ends-2 c
 pub returns-in-Ends : goal.returns-in-Ends
 returns-in-Ends c =
     let a = c.args in
+    let p =
     told_too floats_told (floats_told_lem a.x a.a a.b)
-    (floats_ends a.x a.a a.b _ _ _ _ _ _ c.floats_of.ensures c.floats_of-in-Ends.ensures c.floats_of-in-Ends-2.ensures (ends-are (goal.at.returns-in-Ends c).In-Ends))
+    (floats_ends a.x a.a a.b _ _ _ _ _ _ c.floats_of.ensures c.floats_of-in-Ends.ensures c.floats_of-in-Ends-2.ensures (ends-are (goal.at.returns-in-Ends c).In-Ends)) in
+    record { value = p.0; reply = p.1 }
 
 pub returns-then-refusal-eq11 : goal.returns-then-refusal-eq11
 returns-then-refusal-eq11 c =
     let a = c.args in
-    let e : Refused c.in-Refused.refusal ≡ narrow_of 64 a.x a.a a.b = rw c.in-Refused.is at c.narrow.ensures.0 in
-    told_too floats_told (floats_told_lem a.x a.a a.b) (floats_none a.x a.a a.b _ c.if-refusal-eq11.true e)
+    let e : Refused c.in-Refused.refusal ≡ narrow_of 64 a.x a.a a.b = rw c.in-Refused.is at c.narrow.ensures.value in
+    let p =
+    told_too floats_told (floats_told_lem a.x a.a a.b) (floats_none a.x a.a a.b _ c.if-refusal-eq11.true e) in
+    record { value = p.0; reply = p.1 }
 
 pub returns-else-refusal-eq11 : goal.returns-else-refusal-eq11
 returns-else-refusal-eq11 c =
     let a = c.args in
-    let e : Refused c.in-Refused.refusal ≡ narrow_of 64 a.x a.a a.b = rw c.in-Refused.is at c.narrow.ensures.0 in
-    told_too floats_told (floats_told_lem a.x a.a a.b) (floats_refused a.x a.a a.b _ c.if-refusal-eq11.false e)
+    let e : Refused c.in-Refused.refusal ≡ narrow_of 64 a.x a.a a.b = rw c.in-Refused.is at c.narrow.ensures.value in
+    let p =
+    told_too floats_told (floats_told_lem a.x a.a a.b) (floats_refused a.x a.a a.b _ c.if-refusal-eq11.false e) in
+    record { value = p.0; reply = p.1 }
