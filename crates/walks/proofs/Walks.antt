@@ -10,7 +10,7 @@ use native.Mathlib.Nat.{add-zero, zero-add, suc-add, add-suc, lt-suc_self, lt_of
 use mathlib.Core.List.{List, [], ◌∷◌}
 use lib.WfN.{lt-wf_rel}
 use seplogic.Ra.Ura.{Ura}
-use package.mir.Syntax.{Name, Place, Opd as Operand, Body, seq, call, loop}
+use package.mir.Syntax.{Callee, Place, Opd as Operand, Body, seq, call, loop}
 use package.mir.Val.{Val}
 use base.Logic.{SProp, ent, ex, guard, via, ex_i, ex_e, guard_i, guard_e, id⊢}
 use prog.Wp.{Out, Env, Calls, Loops, after_turn, Wp, Tables}
@@ -70,7 +70,7 @@ module _ {M : Type 1} {𝓤 : Ura M} (𝓛 : Logic 𝓤) where
   abbrev pub contract_of : (T : Ended) → Clauses 𝓤 T → Contract 𝓤
   contract_of T c = triple_of 𝓛 T.signature (closing 𝓛 T c)
 
-module _ {M : Type 1} {𝓤 : Ura M} {𝓛 : Logic 𝓤} {K : Type 0} {Γ : List (Item 𝓤)} {E : Env 𝓤 𝓛.H} {C : Calls 𝓤 𝓛.H} {Λ : Loops 𝓤 𝓛.H} {q : Post 𝓤 𝓛.H} {f : Name} {xs : List Operand} {p : Place} {rest : Body} where
+module _ {M : Type 1} {𝓤 : Ura M} {𝓛 : Logic 𝓤} {K : Type 0} {Γ : List (Item 𝓤)} {E : Env 𝓤 𝓛.H} {C : Calls 𝓤 𝓛.H} {Λ : Loops 𝓤 𝓛.H} {q : Post 𝓤 𝓛.H} {f : Callee} {xs : List Operand} {p : Place} {rest : Body} where
   open 𝓛 use {H}
 
   pub calls_said : K → FmC 𝓤 H 𝓛.laws C → (T : Ended) (c : Clauses 𝓤 T) → Triple 𝓤 (C f) (contract_of 𝓛 T c) → (y : (contract_of 𝓛 T c).Ghost)
@@ -82,7 +82,7 @@ module _ {M : Type 1} {𝓤 : Ura M} {𝓛 : Logic 𝓤} {K : Type 0} {Γ : List
       let R : RattleType = type_at T.signature.result y.0.0 in
       let a : Args T.signature y.0.0 = y.0.3 in
       calls_at t fm (contract_of 𝓛 T c) known y os (λ w.
-      use1 𝓛 (later (some (λ (r : R.Denot). (raw (alive 𝓛 T.signature y.0.0 y.0.1) ⊛ ‵ (R.own r (w ∷ []))) ⊛ some (λ (ws : Lasts T y.0.0 a). ‵ (lasts T y.0.0 a ws) ⊛ raw ((c y.0.0 a).ensures y.1 r (at_exit T y.0.0 a ws)))))) (id⊢ 𝓤 _) $ await t tt $ pick t (λ r.
+      use1 𝓛 (later (some (λ (r : R.Denot). (raw (alive 𝓛 T.signature y.0.0 y.0.1) ⊛ ‵ (R.own_val r (w ∷ []))) ⊛ some (λ (ws : Lasts T y.0.0 a). ‵ (lasts T y.0.0 a ws) ⊛ raw ((c y.0.0 a).ensures y.1 r (at_exit T y.0.0 a ws)))))) (id⊢ 𝓤 _) $ await t tt $ pick t (λ r.
       split t $ move t (1 ∷ []) $ pick t (λ ws. split t $ drop t $ use1 𝓛 (raw (fact 𝓤 (φ r))) (says r (at_exit T y.0.0 a ws)) $ heard t (φ r) (λ h.
       split t $ move t (1 ∷ []) $ peeks t R (Is R) (shows 𝓛 R) r (w ∷ []) (λ i. k r w h i)))))
 
