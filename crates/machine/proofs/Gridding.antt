@@ -105,15 +105,19 @@ module _ (F : Format) (ok : Sound F) where
   -- ---- past b
   module _ (s u : ℕ) (b : E.Interval) (n : is_finite F s ≡ true) where
     -- what an order that does not hold says
-    beyond : (x y : ℕ) (t : Bool) → t ≡ leb x y → not t ≡ true → y < x
-    beyond x y t e h = leb-false x y (sym e ∙ not-true t h)
+    beyond : (x y : ℕ) (t : Bool) → t ≡ leb x y → t ≡ false → y < x
+    beyond x y t e h = leb-false x y (sym e ∙ h)
 
-    pub passes_over : (t v : ℕ) (c d : Bool) → c ≡ leb (ordinal F s) (ordinal F b.high) → not c ≡ true → Negates F u t → Adds F s t v → d ≡ leb (ordinal F b.low) (ordinal F v) → not d ≡ true → Passes F s u b
+    -- the test of the last call, negated
+    denied : (x y : ℕ) (t : Bool) → t ≡ leb x y → not t ≡ true → y < x
+    denied x y t e h = beyond x y t e (not-true t h)
+
+    pub passes_over : (t v : ℕ) (c d : Bool) → c ≡ leb (ordinal F s) (ordinal F b.high) → c ≡ false → Negates F u t → Adds F s t v → d ≡ leb (ordinal F b.low) (ordinal F v) → not d ≡ true → Passes F s u b
     passes_over t v c d a h o p k g =
         over (ordinal_finite F.fraction F.exponent s n) (beyond _ _ c a h)
-        (subst (λ (r : ℕ). r < ordinal F b.low) (p.is n ∙ ap (sum F (ordinal F s)) o.is) (beyond _ _ d k g))
+        (subst (λ (r : ℕ). r < ordinal F b.low) (p.is n ∙ ap (sum F (ordinal F s)) o.is) (denied _ _ d k g))
 
-    pub passes_under : (v : ℕ) (c d : Bool) → c ≡ leb (ordinal F b.low) (ordinal F s) → not c ≡ true → Adds F s u v → d ≡ leb (ordinal F v) (ordinal F b.high) → not d ≡ true → Passes F s u b
+    pub passes_under : (v : ℕ) (c d : Bool) → c ≡ leb (ordinal F b.low) (ordinal F s) → c ≡ false → Adds F s u v → d ≡ leb (ordinal F v) (ordinal F b.high) → not d ≡ true → Passes F s u b
     passes_under v c d a h p k g =
         under (ordinal_finite F.fraction F.exponent s n) (beyond _ _ c a h)
-        (subst (λ (r : ℕ). ordinal F b.high < r) (p.is n) (beyond _ _ d k g))
+        (subst (λ (r : ℕ). ordinal F b.high < r) (p.is n) (denied _ _ d k g))

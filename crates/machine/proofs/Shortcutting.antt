@@ -18,7 +18,6 @@ use Rattle.ladder.proofs.Trimming.{trimmed_never_x, trimmed_never_a, trimmed_non
 use Rattle.arith.specs.declared.format.Format.{Format}
 use Rattle.arith.specs.declared.interval.Interval as I
 use Rattle.arith.specs.declared.narrow.Narrowed.{Narrowed}
-use Rattle.arith.specs.declared.narrow.Narrowed.TheVariants as Narrowed
 use Rattle.arith.specs.Refusals.{refusal}
 use Rattle.arith.specs.Formats.{Sound, is_finite, Finite, ordinal, sum, mirrored}
 use Rattle.arith.specs.Intervals.{ends_finite, is_ordered, range_of}

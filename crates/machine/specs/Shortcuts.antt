@@ -6,7 +6,6 @@ use Rattle.ladder.specs.Narrowing as N
 use Rattle.arith.specs.declared.format.Format.{Format}
 use Rattle.arith.specs.declared.interval.Interval.{Interval}
 use Rattle.arith.specs.declared.narrow.Narrowed.{Narrowed}
-use Rattle.arith.specs.declared.narrow.Narrowed.TheVariants as Narrowed
 use Rattle.arith.specs.Refusals.{refusal}
 use Rattle.arith.specs.Formats.{is_finite, Finite, ordinal, sum, mirrored}
 use Rattle.arith.specs.Intervals.{range_of, ends_finite, is_ordered}
@@ -15,10 +14,8 @@ use Rattle.machine.specs.declared.guess.Checked.{Checked}
 use Rattle.machine.specs.declared.guess.Pair.{Pair}
 use Rattle.machine.specs.declared.«end».End.{End}
 use Rattle.machine.specs.declared.shortcut.Verdict.{Verdict}
-use Rattle.machine.specs.declared.shortcut.Verdict.TheVariants as Verdict
 use Rattle.machine.specs.declared.shortcut.Shortcut.{Shortcut}
 use Rattle.machine.specs.declared.shortcut.Finding.{Finding}
-use Rattle.machine.specs.declared.shortcut.Finding.TheVariants as Finding
 use Rattle.machine.specs.Floats.{is_number, ordinals}
 
 -- ---- the intervals

@@ -10,7 +10,7 @@ use crate::guess::Pair;
 use arith::interval::Interval;
 
 // An end of b, and whether it is known; else it is b's own.
-#[derive(Drop)]
+#[derive(Clone, Copy)]
 pub(crate) struct End {
     pub(crate) b: u64,
     pub(crate) known: bool,

@@ -9,14 +9,14 @@ use crate::float::{add, at_most, below, both, choose, either, format_at, opposit
 use arith::interval::Interval;
 
 // An operand, and whether it is surely the least.
-#[derive(Drop)]
+#[derive(Clone, Copy)]
 pub(crate) struct Checked {
     pub(crate) y: u64,
     pub(crate) sure: bool,
 }
 
 // The low end of one operand, the high end of the other and their sum, and whether both are surely bounds.
-#[derive(Drop)]
+#[derive(Clone, Copy)]
 pub(crate) struct Pair {
     pub(crate) low: u64,
     pub(crate) high: u64,

@@ -14,7 +14,7 @@ use crate::half_ulp::half_gap_below;
 use arith::interval::Interval;
 
 // Whether the two trims are corners, or there is no triple, or they are at least sure bounds, or not even that.
-#[derive(Drop)]
+#[derive(Clone, Copy)]
 pub(crate) enum Verdict {
     Corners,
     None,
@@ -23,7 +23,7 @@ pub(crate) enum Verdict {
 }
 
 // Whether x, a and b are the narrowing, or there is no triple, or x and a are what is left, with the same narrowing.
-#[derive(Drop)]
+#[derive(Clone, Copy)]
 pub(crate) enum Finding {
     Ends,
     None,
@@ -31,7 +31,7 @@ pub(crate) enum Finding {
 }
 
 // Three intervals and what was found. A struct, so that the compiler keeps them in registers.
-#[derive(Drop)]
+#[derive(Clone, Copy)]
 pub(crate) struct Shortcut {
     pub(crate) x: Interval,
     pub(crate) a: Interval,
