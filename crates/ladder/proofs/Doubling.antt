@@ -8,7 +8,7 @@ use borrow.Author.Tests.{lt-ltb, le-ltb}
 use Rattle.ladder.specs.Magnitude.{magnitude, shift}
 use Rattle.ladder.specs.Rounding.{round}
 use Rattle.ladder.specs.Ordinal.{sign, infinity, above, below, mirrored, Finite}
-use Rattle.ladder.specs.Sum.{rounded, gains, losses, sum}
+use Rattle.ladder.specs.Sum.{gains, losses, sum}
 use Rattle.ladder.specs.Halves.{doubled, halved}
 use Rattle.ladder.proofs.Cases.{le_or_lt}
 use Rattle.ladder.proofs.Magnitude.{magnitude_small, magnitude_shift, magnitude_lt, parts}

@@ -1,6 +1,6 @@
 -- Where rounding loses nothing: a multiple of 2^j units below 2^(j + f + 1) is a float's value. Assumes nothing.
 use mathlib.Core.Path.{◌≡◌, sym, ap, ◌∙◌}
-use Prim.Native.Nat.{ℕ, suc, ◌+◌, ◌-◌, ◌*◌, ◌^◌, ◌≤◌, ◌<◌, ◌∣◌}
+use Prim.Native.Nat.{ℕ, suc, ◌+◌, ◌*◌, ◌^◌, ◌≤◌, ◌<◌, ◌∣◌}
 use native.Mathlib.Nat.{dvd_trans, div-mul_cancel, mul-lt-mul_of_pos_right, pow-succ'}
 use native.Mathlib.Omega.{arith}
 use lib.Ieee.Digits.{size-le}
