@@ -2,6 +2,7 @@
 use crate::narrowings::{all_floats, one, put_intervals};
 use crate::print::{put_pattern, put_refused, put_text, put_verdict};
 use arith::interval::Interval;
+use std::io::Stdout;
 use tazsmibor::floats::{FloatAnswer, Floats, narrow_floats};
 
 // A float's pattern, and a NaN's for a NaN.
@@ -21,25 +22,25 @@ fn stands_for(f: Floats, i: Interval) -> bool {
     }
 }
 
-fn put_value(f: Floats) {
+fn put_value(stdout: Stdout, f: Floats) {
     match f {
-        Floats::Point(p) => put_pattern(64, bits64(p)),
+        Floats::Point(p) => put_pattern(stdout, 64, bits64(p)),
         Floats::Span(p, q) => {
-            put_pattern(64, bits64(p));
-            put_text(b" to");
-            put_pattern(64, bits64(q));
+            put_pattern(stdout, 64, bits64(p));
+            put_text(stdout, b" to");
+            put_pattern(stdout, 64, bits64(q));
         }
-        Floats::None => put_text(b" none"),
+        Floats::None => put_text(stdout, b" none"),
     }
 }
 
-fn put_values(x: Floats, a: Floats, b: Floats) {
-    put_text(b" = x");
-    put_value(x);
-    put_text(b", a");
-    put_value(a);
-    put_text(b", b");
-    put_value(b);
+fn put_values(stdout: Stdout, x: Floats, a: Floats, b: Floats) {
+    put_text(stdout, b" = x");
+    put_value(stdout, x);
+    put_text(stdout, b", a");
+    put_value(stdout, a);
+    put_text(stdout, b", b");
+    put_value(stdout, b);
 }
 
 // What is expected: a refusal; or, for 0, the intervals of x, a and b.
@@ -71,30 +72,30 @@ fn refused(refusal: u64) -> Expected {
 }
 
 // The rest of a line for a narrowing, with the floats by their patterns.
-fn conclude(answer: FloatAnswer, expected: Expected) {
+fn conclude(stdout: Stdout, answer: FloatAnswer, expected: Expected) {
     match answer {
         FloatAnswer::Values { x, a, b } => {
-            put_values(x, a, b);
+            put_values(stdout, x, a, b);
             let same_x = stands_for(x, expected.x);
             let same_a = stands_for(a, expected.a);
             let same_b = stands_for(b, expected.b);
-            put_verdict((expected.refusal == 0) & same_x & same_a & same_b);
+            put_verdict(stdout, (expected.refusal == 0) & same_x & same_a & same_b);
         }
         FloatAnswer::Refused(r) => {
-            put_refused(r.number);
-            put_verdict((r.number == expected.refusal) & (r.place == 0));
+            put_refused(stdout, r.number);
+            put_verdict(stdout, (r.number == expected.refusal) & (r.place == 0));
         }
     }
 }
 
-fn read_floats_of(x: Interval, a: Interval, b: Interval, expected: Expected) {
-    put_text(b"floats");
-    put_intervals(64, x, a, b);
-    conclude(narrow_floats(x, a, b), expected);
+fn read_floats_of(stdout: Stdout, x: Interval, a: Interval, b: Interval, expected: Expected) {
+    put_text(stdout, b"floats");
+    put_intervals(stdout, 64, x, a, b);
+    conclude(stdout, narrow_floats(x, a, b), expected);
 }
 
 // 01's first narrowing, one with no triple, an infinite end before a crossed interval, and that interval.
-pub(crate) fn read_floats() {
+pub(crate) fn read_floats(stdout: Stdout) {
     let all = all_floats();
     let one = one();
     let none = Interval::new(1, 0);
@@ -102,8 +103,8 @@ pub(crate) fn read_floats() {
     let large = Interval::new(0x4340000000000000, 0x4350000000000000);
     let minus_large = Interval::new(0xC350000000000000, 0xC340000000000000);
     let infinite = Interval::new(0, 0x7FF0000000000000);
-    read_floats_of(all, one, one, values(small, one, one));
-    read_floats_of(large, minus_large, one, values(none, none, none));
-    read_floats_of(none, one, infinite, refused(2));
-    read_floats_of(one, one, none, refused(3));
+    read_floats_of(stdout, all, one, one, values(small, one, one));
+    read_floats_of(stdout, large, minus_large, one, values(none, none, none));
+    read_floats_of(stdout, none, one, infinite, refused(2));
+    read_floats_of(stdout, one, one, none, refused(3));
 }

@@ -8,10 +8,11 @@ mod print;
 mod sums;
 mod traps;
 
-fn main() {
-    sums::read_sums();
-    intervals::read_intervals();
-    narrowings::read_narrowings();
-    traps::read_traps();
-    floats::read_floats();
+fn main(rt: HostRuntime) {
+    let stdout = rt.stdout();
+    sums::read_sums(stdout);
+    intervals::read_intervals(stdout);
+    narrowings::read_narrowings(stdout);
+    traps::read_traps(stdout);
+    floats::read_floats(stdout);
 }

@@ -1,9 +1,10 @@
 // 01's forward sums and some more, with their marks, remainders and refusals, and one for each place in the order of refusals.
 use crate::print::{put_number, put_pattern, put_refused, put_text, put_verdict};
 use arith::sum::Sum;
+use std::io::Stdout;
 
 // A sum's answer in numbers: refusal 0 stands for a sum.
-#[derive(Drop)]
+#[derive(Clone, Copy)]
 struct Reply {
     refusal: u64,
     place: u64,
@@ -40,32 +41,33 @@ fn equal(r: Reply, s: Reply) -> bool {
     refusals & (r.pattern == s.pattern) & (r.mark == s.mark) & (r.remainder == s.remainder)
 }
 
-fn put_reply(width: u64, r: Reply) {
+fn put_reply(stdout: Stdout, width: u64, r: Reply) {
     if r.refusal != 0 {
-        put_refused(r.refusal);
+        put_refused(stdout, r.refusal);
         return;
     }
-    put_text(b" =");
-    put_pattern(width, r.pattern);
-    put_text(b" mark");
-    put_number(r.mark);
-    put_text(b" remainder");
-    put_pattern(width, r.remainder);
+    put_text(stdout, b" =");
+    put_pattern(stdout, width, r.pattern);
+    put_text(stdout, b" mark");
+    put_number(stdout, r.mark);
+    put_text(stdout, b" remainder");
+    put_pattern(stdout, width, r.remainder);
 }
 
 // A line with the sum as answered, and whether that is the answer expected.
-fn read(width: u64, x: u64, a: u64, expected: Reply) {
+fn read(stdout: Stdout, width: u64, x: u64, a: u64, expected: Reply) {
     let got = reply_of(arith::sum::add(width, x, a));
-    put_text(b"sum");
-    put_number(width);
-    put_pattern(width, x);
-    put_pattern(width, a);
-    put_reply(width, got);
-    put_verdict(equal(got, expected));
+    put_text(stdout, b"sum");
+    put_number(stdout, width);
+    put_pattern(stdout, width, x);
+    put_pattern(stdout, width, a);
+    put_reply(stdout, width, got);
+    put_verdict(stdout, equal(got, expected));
 }
 
-fn read_sum(width: u64, x: u64, a: u64, pattern: u64, mark: u64, remainder: u64) {
+fn read_sum(stdout: Stdout, width: u64, x: u64, a: u64, pattern: u64, mark: u64, remainder: u64) {
     read(
+        stdout,
         width,
         x,
         a,
@@ -79,8 +81,9 @@ fn read_sum(width: u64, x: u64, a: u64, pattern: u64, mark: u64, remainder: u64)
     );
 }
 
-fn read_refusal(width: u64, x: u64, a: u64, refusal: u64) {
+fn read_refusal(stdout: Stdout, width: u64, x: u64, a: u64, refusal: u64) {
     read(
+        stdout,
         width,
         x,
         a,
@@ -95,8 +98,9 @@ fn read_refusal(width: u64, x: u64, a: u64, refusal: u64) {
 }
 
 // Ties, neighbours of ties, the smallest floats and the largest.
-fn read_starred() {
+fn read_starred(stdout: Stdout) {
     read_sum(
+        stdout,
         64,
         0x3FF0000000000000,
         0x3CA0000000000000,
@@ -105,6 +109,7 @@ fn read_starred() {
         0x3CA0000000000000,
     );
     read_sum(
+        stdout,
         64,
         0x3FF0000000000000,
         0x3CA0000000000001,
@@ -113,6 +118,7 @@ fn read_starred() {
         0xBC9FFFFFFFFFFFFE,
     );
     read_sum(
+        stdout,
         64,
         0x0000000000000001,
         0x0000000000000001,
@@ -121,6 +127,7 @@ fn read_starred() {
         0x0000000000000000,
     );
     read_sum(
+        stdout,
         64,
         0x7FEFFFFFFFFFFFFF,
         0x7C80000000000000,
@@ -128,13 +135,16 @@ fn read_starred() {
         1,
         0x7C80000000000000,
     );
-    read_refusal(64, 0x7FEFFFFFFFFFFFFF, 0x7C90000000000000, 9);
-    read_sum(32, 0x3F800000, 0x33800000, 0x3F800000, 1, 0x33800000);
+    read_refusal(stdout, 64, 0x7FEFFFFFFFFFFFFF, 0x7C90000000000000, 9);
+    read_sum(
+        stdout, 32, 0x3F800000, 0x33800000, 0x3F800000, 1, 0x33800000,
+    );
 }
 
 // Zero has one pattern; below a power of two the floats are twice as dense.
-fn read_signs() {
+fn read_signs(stdout: Stdout) {
     read_sum(
+        stdout,
         64,
         0x8000000000000000,
         0x8000000000000000,
@@ -143,6 +153,7 @@ fn read_signs() {
         0x0000000000000000,
     );
     read_sum(
+        stdout,
         64,
         0x3FF0000000000000,
         0xBFF0000000000000,
@@ -151,6 +162,7 @@ fn read_signs() {
         0x0000000000000000,
     );
     read_sum(
+        stdout,
         64,
         0x3FF0000000000000,
         0xBC90000000000000,
@@ -159,6 +171,7 @@ fn read_signs() {
         0xBC90000000000000,
     );
     read_sum(
+        stdout,
         64,
         0x3FF0000000000000,
         0xBC90000000000001,
@@ -166,14 +179,17 @@ fn read_signs() {
         1,
         0x3C8FFFFFFFFFFFFE,
     );
-    read_refusal(64, 0xFFEFFFFFFFFFFFFF, 0xFC90000000000000, 9);
-    read_sum(32, 0x00800000, 0x80000001, 0x007FFFFF, 0, 0x00000000);
-    read_refusal(32, 0x7F7FFFFF, 0x73000000, 9);
+    read_refusal(stdout, 64, 0xFFEFFFFFFFFFFFFF, 0xFC90000000000000, 9);
+    read_sum(
+        stdout, 32, 0x00800000, 0x80000001, 0x007FFFFF, 0, 0x00000000,
+    );
+    read_refusal(stdout, 32, 0x7F7FFFFF, 0x73000000, 9);
 }
 
 // What rounding left over: of a tie that went up, of a carry into the next binade, and of sums below zero.
-fn read_remainders() {
+fn read_remainders(stdout: Stdout) {
     read_sum(
+        stdout,
         64,
         0x3FF0000000000001,
         0x3CA0000000000000,
@@ -182,6 +198,7 @@ fn read_remainders() {
         0xBCA0000000000000,
     );
     read_sum(
+        stdout,
         64,
         0x3FFFFFFFFFFFFFFF,
         0x3CA8000000000000,
@@ -190,6 +207,7 @@ fn read_remainders() {
         0xBC90000000000000,
     );
     read_sum(
+        stdout,
         64,
         0xBFF0000000000000,
         0xBCA0000000000001,
@@ -198,6 +216,7 @@ fn read_remainders() {
         0x3C9FFFFFFFFFFFFE,
     );
     read_sum(
+        stdout,
         64,
         0x3CA0000000000001,
         0xBFF0000000000000,
@@ -208,8 +227,9 @@ fn read_remainders() {
 }
 
 // One unit left over: where the signs are opposite, and across a gap of more than a word, on either side of zero.
-fn read_units_left() {
+fn read_units_left(stdout: Stdout) {
     read_sum(
+        stdout,
         64,
         0x0040000000000000,
         0x8000000000000003,
@@ -218,6 +238,7 @@ fn read_units_left() {
         0x0000000000000001,
     );
     read_sum(
+        stdout,
         64,
         0x7FEFFFFFFFFFFFFF,
         0x0000000000000001,
@@ -226,6 +247,7 @@ fn read_units_left() {
         0x0000000000000001,
     );
     read_sum(
+        stdout,
         64,
         0xFFEFFFFFFFFFFFFF,
         0x0000000000000001,
@@ -233,23 +255,25 @@ fn read_units_left() {
         1,
         0x0000000000000001,
     );
-    read_sum(32, 0x01800000, 0x80000003, 0x017FFFFE, 1, 0x00000001);
+    read_sum(
+        stdout, 32, 0x01800000, 0x80000003, 0x017FFFFE, 1, 0x00000001,
+    );
 }
 
 // Refusals 1, 2 for x, 2 for a, and their order.
-fn read_refusals() {
-    read_refusal(0, 0x7FF0000000000000, 0x7FF0000000000000, 1);
-    read_refusal(33, 0x3F800000, 0x3F800000, 1);
-    read_refusal(64, 0x7FF0000000000000, 0x3FF0000000000000, 2);
-    read_refusal(64, 0x7FEFFFFFFFFFFFFF, 0xFFF8000000000000, 2);
-    read_refusal(32, 0x100000000, 0x3F800000, 2);
-    read_refusal(32, 0x3F800000, 0x7F800001, 2);
+fn read_refusals(stdout: Stdout) {
+    read_refusal(stdout, 0, 0x7FF0000000000000, 0x7FF0000000000000, 1);
+    read_refusal(stdout, 33, 0x3F800000, 0x3F800000, 1);
+    read_refusal(stdout, 64, 0x7FF0000000000000, 0x3FF0000000000000, 2);
+    read_refusal(stdout, 64, 0x7FEFFFFFFFFFFFFF, 0xFFF8000000000000, 2);
+    read_refusal(stdout, 32, 0x100000000, 0x3F800000, 2);
+    read_refusal(stdout, 32, 0x3F800000, 0x7F800001, 2);
 }
 
-pub(crate) fn read_sums() {
-    read_starred();
-    read_signs();
-    read_remainders();
-    read_units_left();
-    read_refusals();
+pub(crate) fn read_sums(stdout: Stdout) {
+    read_starred(stdout);
+    read_signs(stdout);
+    read_remainders(stdout);
+    read_units_left(stdout);
+    read_refusals(stdout);
 }
