@@ -9,6 +9,7 @@ use arith::interval::Interval;
 use propagation::narrowing::narrow_sheet;
 use propagation::passes::Outcome;
 use sheet::kept::Sheet;
+use std::io::Stdout;
 
 // How many cases are compared.
 const CASES: u64 = 670;
@@ -151,12 +152,12 @@ fn next_case(tally: Tally, c: u64, w: u64) -> Tally {
     )
 }
 
-pub(crate) fn compare_lists() {
+pub(crate) fn compare_lists(stdout: Stdout) {
     let mut tally = nothing_yet();
     let mut w: u64 = 88172645463325252;
     for c in 0..CASES {
         w = next_word(w);
         tally = next_case(tally, c, w);
     }
-    put_tally(b"lists", tally);
+    put_tally(stdout, b"lists", tally);
 }

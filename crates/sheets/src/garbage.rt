@@ -13,6 +13,7 @@ use propagation::passes::Outcome;
 use sheet::accepting::accept;
 use sheet::adding::{add_cell, add_record};
 use sheet::kept::{Answer, Sheet};
+use std::io::Stdout;
 
 // How many sheets are handed in.
 const SHEETS: u64 = 500;
@@ -124,12 +125,12 @@ fn next_sheet(tally: Tally, w: u64) -> Tally {
     count_verdict(count_outcome(tally, outcome), agrees)
 }
 
-pub(crate) fn read_garbage() {
+pub(crate) fn read_garbage(stdout: Stdout) {
     let mut tally = nothing_yet();
     let mut w: u64 = 88172645463325252;
     for _ in 0..SHEETS {
         w = next_word(w);
         tally = next_sheet(tally, w);
     }
-    put_tally(b"sheets", tally);
+    put_tally(stdout, b"sheets", tally);
 }

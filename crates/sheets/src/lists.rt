@@ -7,9 +7,10 @@ use crate::print::{put_interval, put_number, put_record, put_text, put_verdict};
 use crate::reply::{Reply, equal, no_triple, refused, reply_of, settled, stopped};
 use arith::interval::Interval;
 use sheet::kept::Record;
+use std::io::Stdout;
 
 // The first four cells of an array.
-#[derive(Drop)]
+#[derive(Clone, Copy)]
 pub(crate) struct Four {
     c0: Interval,
     c1: Interval,
@@ -54,24 +55,24 @@ fn equal_cells(f: Four, g: Four) -> bool {
     c0 & c1 & c2 & c3
 }
 
-fn put_cells(f: Four) {
-    put_text(b", cells");
-    put_interval(f.c0);
-    put_interval(f.c1);
-    put_interval(f.c2);
-    put_interval(f.c3);
+fn put_cells(stdout: Stdout, f: Four) {
+    put_text(stdout, b", cells");
+    put_interval(stdout, f.c0);
+    put_interval(stdout, f.c1);
+    put_interval(stdout, f.c2);
+    put_interval(stdout, f.c3);
 }
 
-fn put_reply(r: Reply) {
+fn put_reply(stdout: Stdout, r: Reply) {
     let kind = r.kind;
     match kind {
-        1 => put_text(b": settled"),
-        2 => put_text(b": stopped"),
-        3 => put_text(b": none"),
-        _ => put_text(b": refused"),
+        1 => put_text(stdout, b": settled"),
+        2 => put_text(stdout, b": stopped"),
+        3 => put_text(stdout, b": none"),
+        _ => put_text(stdout, b": refused"),
     }
-    put_number(r.first);
-    put_number(r.second);
+    put_number(stdout, r.first);
+    put_number(stdout, r.second);
 }
 
 pub(crate) fn point(p: u64) -> Interval {
@@ -97,25 +98,37 @@ fn both_sums() -> Records {
 }
 
 // The rest of a line for a call over n of these cells and m of the records: its outcome and the first four cells after it, and whether they are the ones expected, of the kept sheet too.
-fn read(limit: u64, given: Four, n: usize, records: Records, m: usize, reply: Reply, expected: Four)
+fn read(
+    stdout: Stdout,
+    limit: u64,
+    given: Four,
+    n: usize,
+    records: Records,
+    m: usize,
+    reply: Reply,
+    expected: Four,
+)
     requires { (n ≤ 66) × (m ≤ 130) }
 {
-    put_text(b", limit");
-    put_number(limit);
+    put_text(stdout, b", limit");
+    put_number(stdout, limit);
     let both = narrow_both(64, limit, cells_of(given), n, records, m);
     let left = both.left;
     let outcome = left.outcome;
     let after = left.cells;
     let got = reply_of(outcome);
     let cells = four_of(after);
-    put_reply(got);
-    put_cells(cells);
-    put_verdict(equal(got, reply) & equal_cells(cells, expected) & both.alike);
+    put_reply(stdout, got);
+    put_cells(stdout, cells);
+    put_verdict(
+        stdout,
+        equal(got, reply) & equal_cells(cells, expected) & both.alike,
+    );
 }
 
 // 01's listing, three cells and one sum. The fourth cell is not lent, so its zero keeps its sign.
-fn read_listed(limit: u64, reply: Reply) {
-    put_text(b"lists, listing");
+fn read_listed(stdout: Stdout, limit: u64, reply: Reply) {
+    put_text(stdout, b"lists, listing");
     let given = Four {
         c0: Interval::new(0xC630000000000000, 0xC330000000000000),
         c1: Interval::new(0x3FF0000000000000, 0x4630000000000000),
@@ -128,7 +141,7 @@ fn read_listed(limit: u64, reply: Reply) {
         c2: point(0x3FF0000000000000),
         c3: point(0x8000000000000000),
     };
-    read(limit, given, 3, both_sums(), 1, reply, expected);
+    read(stdout, limit, given, 3, both_sums(), 1, reply, expected);
 }
 
 // 01's sheet of two sums, whose cells 0 and 2 lose a place at each end in every pass, here both from low to high.
@@ -142,11 +155,11 @@ fn two_sums(low: u64, high: u64) -> Four {
 }
 
 // A line for it, with cells 0 and 2 from low to high after the call.
-fn read_two_sums(limit: u64, reply: Reply, low: u64, high: u64) {
-    put_text(b"lists, two sums");
+fn read_two_sums(stdout: Stdout, limit: u64, reply: Reply, low: u64, high: u64) {
+    put_text(stdout, b"lists, two sums");
     let given = two_sums(0, 10);
     let expected = two_sums(low, high);
-    read(limit, given, 4, both_sums(), 2, reply, expected);
+    read(stdout, limit, given, 4, both_sums(), 2, reply, expected);
 }
 
 // Three cells. The fourth is not lent, so its zero keeps its sign.
@@ -169,55 +182,96 @@ fn small() -> Four {
 }
 
 // A line of this name for one record over three cells.
-pub(crate) fn read_over(name: &[u8], given: Four, record: Record, reply: Reply, expected: Four) {
-    put_text(name);
-    put_record(record);
-    read(10, given, 3, records_of(record, record), 1, reply, expected);
+pub(crate) fn read_over(
+    stdout: Stdout,
+    name: &[u8],
+    given: Four,
+    record: Record,
+    reply: Reply,
+    expected: Four,
+) {
+    put_text(stdout, name);
+    put_record(stdout, record);
+    read(
+        stdout,
+        10,
+        given,
+        3,
+        records_of(record, record),
+        1,
+        reply,
+        expected,
+    );
 }
 
 // A line for one over those at small places.
-pub(crate) fn read_one(record: Record, reply: Reply, expected: Four) {
-    read_over(b"lists,", small(), record, reply, expected);
+pub(crate) fn read_one(stdout: Stdout, record: Record, reply: Reply, expected: Four) {
+    read_over(stdout, b"lists,", small(), record, reply, expected);
 }
 
 // A line for two records that leave the cells as they were.
-fn read_both(first: Record, second: Record, reply: Reply) {
-    put_text(b"lists,");
-    put_record(first);
-    put_text(b",");
-    put_record(second);
-    read(10, small(), 3, records_of(first, second), 2, reply, small());
+fn read_both(stdout: Stdout, first: Record, second: Record, reply: Reply) {
+    put_text(stdout, b"lists,");
+    put_record(stdout, first);
+    put_text(stdout, b",");
+    put_record(stdout, second);
+    read(
+        stdout,
+        10,
+        small(),
+        3,
+        records_of(first, second),
+        2,
+        reply,
+        small(),
+    );
 }
 
 // A diff; a neg without cell 0, which keeps its ends, each in its one pattern; a neg with cell 0 as x, and one with it as y.
-fn read_kinds() {
+fn read_kinds(stdout: Stdout) {
     let c0 = Interval::new(0, 9);
     let c1 = Interval::new(0x8000000000000005, 4);
     let c2 = Interval::new(0x8000000000000004, 6);
-    read_one(of_kind(1, 0, 1, 2), settled(2), three(c0, c1, c2));
+    read_one(stdout, of_kind(1, 0, 1, 2), settled(2), three(c0, c1, c2));
     let mirrored = Interval::new(0x8000000000000004, 5);
-    read_one(of_kind(2, 1, 2, 0), settled(2), three(c0, c1, mirrored));
+    read_one(
+        stdout,
+        of_kind(2, 1, 2, 0),
+        settled(2),
+        three(c0, c1, mirrored),
+    );
     let positive = Interval::new(0, 5);
     let negative = Interval::new(0x8000000000000005, 0);
     let unnamed = Interval::new(0x8000000000000007, 6);
     let cut = three(positive, negative, unnamed);
-    read_one(of_kind(2, 0, 1, 0), settled(2), cut);
-    read_one(of_kind(2, 1, 0, 0), settled(2), cut);
+    read_one(stdout, of_kind(2, 0, 1, 0), settled(2), cut);
+    read_one(stdout, of_kind(2, 1, 0, 0), settled(2), cut);
 }
 
 // Refusal 4: a kind above 2, and a neg with a third number; before 5 of the same record, after 5 of an earlier one. The cells stay as they were.
-fn read_refused() {
-    read_one(of_kind(3, 0, 1, 2), refused(4, 0), small());
-    read_one(of_kind(2, 0, 1, 2), refused(4, 0), small());
-    read_one(of_kind(2, 3, 1, 2), refused(4, 0), small());
-    read_both(of_kind(1, 0, 1, 2), of_kind(3, 0, 1, 2), refused(4, 1));
-    read_both(of_kind(2, 0, 3, 0), of_kind(3, 0, 1, 2), refused(5, 0));
+fn read_refused(stdout: Stdout) {
+    read_one(stdout, of_kind(3, 0, 1, 2), refused(4, 0), small());
+    read_one(stdout, of_kind(2, 0, 1, 2), refused(4, 0), small());
+    read_one(stdout, of_kind(2, 3, 1, 2), refused(4, 0), small());
+    read_both(
+        stdout,
+        of_kind(1, 0, 1, 2),
+        of_kind(3, 0, 1, 2),
+        refused(4, 1),
+    );
+    read_both(
+        stdout,
+        of_kind(2, 0, 3, 0),
+        of_kind(3, 0, 1, 2),
+        refused(5, 0),
+    );
 }
 
 // A line for a record that has no solution over three positive cells.
-pub(crate) fn read_none(record: Record) {
+pub(crate) fn read_none(stdout: Stdout, record: Record) {
     let given = three(point(1), point(2), point(3));
     read_over(
+        stdout,
         b"lists, positive cells,",
         given,
         record,
@@ -227,13 +281,13 @@ pub(crate) fn read_none(record: Record) {
 }
 
 // 01's sheets; of the two sums also its last trap: each sum of the first pass is cut exactly, and the second moves a cell of the first, so nothing is settled.
-pub(crate) fn read_lists() {
-    read_listed(10, settled(2));
-    read_listed(1, stopped(1));
-    read_two_sums(1, stopped(1), 1, 9);
-    read_two_sums(5, stopped(5), 5, 5);
-    read_two_sums(6, no_triple(6, 0), 0, 10);
-    read_kinds();
-    read_none(of_kind(2, 0, 1, 0));
-    read_refused();
+pub(crate) fn read_lists(stdout: Stdout) {
+    read_listed(stdout, 10, settled(2));
+    read_listed(stdout, 1, stopped(1));
+    read_two_sums(stdout, 1, stopped(1), 1, 9);
+    read_two_sums(stdout, 5, stopped(5), 5, 5);
+    read_two_sums(stdout, 6, no_triple(6, 0), 0, 10);
+    read_kinds(stdout);
+    read_none(stdout, of_kind(2, 0, 1, 0));
+    read_refused(stdout);
 }

@@ -13,10 +13,11 @@ mod reply;
 mod tally;
 mod writing;
 
-fn main() {
-    writing::read_rooms(building::build());
-    garbage::read_garbage();
-    lists::read_lists();
-    repeated::read_repeated();
-    compare::compare_lists();
+fn main(rt: HostRuntime) {
+    let stdout = rt.stdout();
+    writing::read_rooms(stdout, building::build(stdout));
+    garbage::read_garbage(stdout);
+    lists::read_lists(stdout);
+    repeated::read_repeated(stdout);
+    compare::compare_lists(stdout);
 }

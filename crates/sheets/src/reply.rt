@@ -2,7 +2,7 @@
 use propagation::passes::Outcome;
 
 // 1 settled and 2 stopped with the passes, 3 no triple with pass and record, 4 refused with number and place.
-#[derive(Drop)]
+#[derive(Clone, Copy)]
 pub(crate) struct Reply {
     pub(crate) kind: u64,
     pub(crate) first: u64,

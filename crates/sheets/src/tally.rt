@@ -1,6 +1,7 @@
 // What was compared: how many calls, how they ended, and how many differed.
 use crate::print::{put_number, put_text};
 use propagation::passes::Outcome;
+use std::io::Stdout;
 
 #[derive(Drop)]
 pub(crate) struct Tally {
@@ -50,30 +51,30 @@ pub(crate) fn count_verdict(tally: Tally, agrees: bool) -> Tally {
     next
 }
 
-fn put(text: &[u8], n: u64) {
-    put_text(text);
-    put_number(n);
+fn put(stdout: Stdout, text: &[u8], n: u64) {
+    put_text(stdout, text);
+    put_number(stdout, n);
 }
 
 // Each refusal that came, with how often.
-fn put_refused(refused: [u64; 16]) {
+fn put_refused(stdout: Stdout, refused: [u64; 16]) {
     for i in 0..16 {
         let n = refused[i];
         if n != 0 {
-            put(b", refused", i as u64);
-            put(b":", n);
+            put(stdout, b", refused", i as u64);
+            put(stdout, b":", n);
         }
     }
 }
 
 // A line for what was compared, after its name.
-pub(crate) fn put_tally(name: &[u8], t: Tally) {
-    put_text(name);
-    put(b" settled", t.settled);
-    put(b", stopped", t.stopped);
-    put(b", no triple", t.no_triple);
+pub(crate) fn put_tally(stdout: Stdout, name: &[u8], t: Tally) {
+    put_text(stdout, name);
+    put(stdout, b" settled", t.settled);
+    put(stdout, b", stopped", t.stopped);
+    put(stdout, b", no triple", t.no_triple);
     let refused = t.refused;
-    put_refused(refused);
-    put(b"; differed", t.differed);
-    put_text(b"\n");
+    put_refused(stdout, refused);
+    put(stdout, b"; differed", t.differed);
+    put_text(stdout, b"\n");
 }
