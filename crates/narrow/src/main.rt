@@ -3,7 +3,9 @@
 
 mod failure;
 
+ghost use Rattle.std.specs.Prelude.{◌<◌, take, length, IfOk};
 ghost use Rattle.std.specs.Io.{ReadsAtMost};
+ghost use Rattle.std.specs.Io.KnownBytes.{Consumes, IsAtEnd, ReadConsumes};
 
 use failure::fail;
 use listing::from_text::list;
@@ -14,14 +16,17 @@ use std::io::{Read, Stderr, Stdout};
 
 // What one read puts at the start of text: nothing at the end of the input.
 fn read_part<R: Read>(input: &mut R, text: &mut [u8]) -> io::Result<usize>
-    ensures { ReadsAtMost result text.new }
+    ensures bound { ReadsAtMost result text.new }
+    ensures bytes { ReadConsumes (R.remaining input.old) (R.remaining input.new) result text.new }
 {
     input.read(text)
 }
 
 // The input to its end, or as much of it as there is room for.
 fn read_input<R: Read>(input: &mut R, text: &mut [u8]) -> io::Result<usize>
-    ensures { ReadsAtMost result text.new }
+    ensures bound { ReadsAtMost result text.new }
+    ensures bytes { IfOk result (λ n. Consumes (R.remaining input.old) (R.remaining input.new) (take n text.new)) }
+    ensures end { IfOk result (λ n. n < length text.new → IsAtEnd (R.remaining input.new)) }
 {
     let mut n = 0;
     while n < text.len() {

@@ -73,7 +73,8 @@ pub(crate) fn narrow_both(
     records: Records,
     m: usize,
 ) -> Both
-    requires { (n ≤ 66) × (m ≤ 130) }
+    requires cells { n ≤ 66 }
+    requires records { m ≤ 130 }
 {
     let given = cells.lent;
     let kept_cells = cells.kept;
@@ -110,7 +111,8 @@ fn compare_case(
     records: Records,
     m: usize,
 ) -> Tally
-    requires { (n ≤ 66) × (m ≤ 130) }
+    requires cells { n ≤ 66 }
+    requires records { m ≤ 130 }
 {
     let both = narrow_both(width, limit, cells, n, records, m);
     let left = both.left;
