@@ -1,3 +1,4 @@
+-- Each turn reads at least a byte; those read so far are the front of the input.
 use Rattle.std.proofs.Common.{length, ◌-◌, ◌≤◌, take}
 use Rattle.std.specs.Io.KnownBytes.{Consumes}
 use Rattle.narrow.proofs.read_input.Given as goal
