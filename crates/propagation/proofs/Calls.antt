@@ -6,15 +6,12 @@ use Prim.Native.Nat.{ℕ}
 use lib.ListN.{length}
 use Rattle.arith.specs.declared.interval.Interval.{Interval}
 use Rattle.arith.specs.declared.refusal.Refusal.{Refusal}
-use Rattle.sheet.specs.declared.kept.Record.{Record}
 use Rattle.sheet.specs.declared.kept.Answer.{Answer}
-use Rattle.sheet.specs.declared.kept.Answer.TheVariants as Answer
 use Rattle.sheet.specs.Boxes.{Box, IsBox, Contains}
 use Rattle.sheet.specs.Cells.{fraction_of, exponent_of, rules_of, box_of, cells_of}
 use Rattle.sheet.proofs.Tested.{tested}
-use Rattle.propagation.specs.declared.passes.Outcome.{Outcome}
 use Rattle.propagation.specs.declared.passes.Outcome.TheVariants.{Refused}
-use Rattle.propagation.specs.Runs.{Ended, settled, stopped, no_triple, run, left_by, last_box}
+use Rattle.propagation.specs.Runs.{Ended, settled, stopped, no_triple, left_by, last_box}
 use Rattle.propagation.specs.Consistency.{AllNames, Demand3}
 use Rattle.propagation.specs.Calls.{Call, box_before, box_after, test_on, end_on, outcome_by, outcome_after, cells_after, outcome_number, outcome_values, number_after, values_after, Narrows}
 use Rattle.propagation.specs.Planning.{InsideOrFails}

@@ -6,7 +6,6 @@ use native.Mathlib.Omega.{arith}
 use lib.ListN.{length, length-map}
 use Rattle.sheet.specs.declared.kept.Sheet.{Sheet}
 use Rattle.sheet.specs.declared.kept.Answer.{Answer}
-use Rattle.sheet.specs.declared.kept.Answer.TheVariants as Answer
 use Rattle.sheet.specs.Boxes.{Box}
 use Rattle.sheet.specs.Cells.{rules_of, box_of, cells_of}
 use Rattle.sheet.specs.Sheets.{places, used_cells, used_records, tidied, with_cells, test_of}

@@ -4,7 +4,6 @@ use mathlib.Core.List.{List}
 use Prim.Native.Nat.{ℕ, ◌≤◌}
 use Rattle.sheet.specs.declared.kept.Record.{Record}
 use Rattle.sheet.specs.declared.kept.Answer.{Answer}
-use Rattle.sheet.specs.declared.kept.Answer.TheVariants as Answer
 use Rattle.propagation.specs.declared.passes.Outcome.{Outcome}
 use Rattle.propagation.specs.declared.passes.Outcome.TheVariants.{Settled, NoTriple, Stopped, Refused}
 use Rattle.sheet.specs.Records.{Rules}

@@ -14,7 +14,7 @@ use Rattle.sheet.specs.Members.{Each}
 use Rattle.sheet.specs.Records.{named, Names}
 use Rattle.sheet.specs.Boxes.{Box, IsBox}
 use Rattle.sheet.specs.Cells.{fraction_of, exponent_of, rules_of, ordinals_of, patterns_of, box_of}
-use Rattle.sheet.specs.Sheets.{no_cell, no_record, filled, places, used_cells, used_records, tidied, test_lists, test_of}
+use Rattle.sheet.specs.Sheets.{no_cell, no_record, filled, places, used_cells, tidied, test_lists, test_of}
 use Rattle.sheet.proofs.Members.{each_at}
 use Rattle.sheet.proofs.Tested.{tested}
 use Rattle.sheet.proofs.Tidied.{sheet_tested, cells_counted, records_counted, tidied_records, tidied_record}

@@ -4,7 +4,6 @@ use Rattle.arith.specs.declared.interval.Interval.{Interval}
 use Rattle.sheet.specs.declared.kept.Record.{Record}
 use Rattle.sheet.specs.declared.kept.Sheet.{Sheet}
 use Rattle.sheet.specs.declared.kept.Answer.{Answer}
-use Rattle.sheet.specs.declared.kept.Answer.TheVariants as Answer
 use Rattle.sheet.specs.Boxes.{Box}
 use Rattle.sheet.specs.Cells.{fraction_of, exponent_of, rules_of, box_of, cells_of}
 use Rattle.sheet.specs.Sheets.{used_cells, used_records, test_lists}

@@ -2,7 +2,6 @@
 use Rattle.std.specs.Prelude.{◌≡◌}
 use Rattle.sheet.specs.declared.kept.Sheet.{Sheet}
 use Rattle.sheet.specs.declared.kept.Answer.{Answer}
-use Rattle.sheet.specs.declared.kept.Answer.TheVariants as Answer
 use Rattle.sheet.specs.Boxes.{Box}
 use Rattle.sheet.specs.Sheets.{places, tidied, with_cells, test_of}
 use Rattle.propagation.specs.declared.passes.Outcome.TheVariants.{Refused}

@@ -2,11 +2,9 @@
 use Rattle.std.specs.Prelude.{Bool, cond, ℕ, ltb, eqb}
 use Rattle.arith.specs.declared.interval.Interval.{Interval}
 use Rattle.arith.specs.declared.interval.Cut.{Cut}
-use Rattle.arith.specs.declared.interval.Cut.TheVariants as Cut
 use Rattle.arith.specs.declared.narrow.Narrowed.{Narrowed}
 use Rattle.arith.specs.declared.narrow.Narrowed.TheVariants.{Ends, Refused}
 use Rattle.arith.specs.declared.repeated.Paired.{Paired}
-use Rattle.arith.specs.declared.repeated.Paired.TheVariants as Paired
 use Rattle.arith.specs.Refusals.{refusal}
 use Rattle.arith.specs.Formats.{format_of}
 use Rattle.arith.specs.Intervals.{mirrored_ends, cut_of}
@@ -15,7 +13,6 @@ use Rattle.arith.specs.Repeats.{doubling, absorbing, pair_of}
 use Rattle.sheet.specs.declared.kept.Record.{Record}
 use Rattle.sheet.specs.Sheets.{no_cell}
 use Rattle.propagation.specs.declared.step.Alike.{Alike}
-use Rattle.propagation.specs.declared.step.Alike.TheVariants as Alike
 use Rattle.propagation.specs.declared.step.Cells.{Cells}
 use Rattle.propagation.specs.declared.step.Cells.TheVariants.{Apart, Repeated}
 

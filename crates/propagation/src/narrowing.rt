@@ -9,7 +9,7 @@ use sheet::accepting::accept;
 use sheet::kept::{Answer, Sheet};
 
 // The sheet after a run, with its outcome.
-#[derive(Drop)]
+#[derive(Clone, Copy)]
 pub struct Run {
     pub sheet: Sheet,
     pub outcome: Outcome,

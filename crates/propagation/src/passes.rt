@@ -10,7 +10,7 @@ use arith::refusal::Refusal;
 use sheet::kept::Sheet;
 
 // How a run ended, by pass and record, both as 01 counts them; or the refusal of the sheet.
-#[derive(Drop)]
+#[derive(Clone, Copy)]
 pub enum Outcome {
     Settled { passes: u64 },
     NoTriple { pass: u64, record: u64 },
@@ -19,7 +19,7 @@ pub enum Outcome {
 }
 
 // How a run ended, with the cells as they then were.
-#[derive(Drop)]
+#[derive(Clone, Copy)]
 pub(crate) struct Halted {
     pub(crate) outcome: Outcome,
     pub(crate) cells: [Interval; 64],

@@ -11,7 +11,7 @@ use machine::narrow::narrow;
 use sheet::kept::Record;
 
 // The places of a record in which one cell stands.
-#[derive(Drop)]
+#[derive(Clone, Copy)]
 pub(crate) enum Alike {
     XA,
     XB,
@@ -20,7 +20,7 @@ pub(crate) enum Alike {
 }
 
 // Whether a record names three cells, or one of them more than once.
-#[derive(Drop)]
+#[derive(Clone, Copy)]
 pub(crate) enum Cells {
     Apart,
     Repeated(Alike),
