@@ -22,7 +22,7 @@ use Rattle.sheet.proofs.Answers.{test_head, test_many_cells, test_many_records}
 use Rattle.sheet.proofs.Filling.{length_filled}
 use Rattle.propagation.specs.declared.narrowing.Run.{Run}
 use Rattle.propagation.specs.Runs.{Ended, settled, stopped, no_triple, run, left_by}
-use Rattle.propagation.specs.Calls.{Call, lent_call, outcome_by, outcome_after, cells_after, Narrows}
+use Rattle.propagation.specs.Calls.{lent_call, outcome_by, outcome_after, cells_after, Narrows}
 use Rattle.propagation.specs.Narrowings.{end_of, ran_on, run_after, narrow_sheet_of, NarrowsSheet}
 use Rattle.propagation.specs.Planning.{InsideOrFails}
 use Rattle.propagation.proofs.Shrinking.{run_inside}
