@@ -1,5 +1,5 @@
 -- The reader keeps the width and the counts, and gives every refusal itself: the sheet that its records fill passes the sheet's own test, and so does what is read. Rests on Moving, Following and Building.
-use mathlib.Core.Path.{◌≡◌, refl, sym, ap, ◌∙◌}
+use mathlib.Core.Path.{◌≡◌, sym, ap, ◌∙◌}
 use mathlib.Core.List.{List, [], ◌∷◌, ◌++◌}
 use Prim.Native.Nat.{ℕ, zero, suc, ◌+◌, ◌<◌}
 use native.Mathlib.Omega.{arith}
@@ -18,7 +18,6 @@ use Rattle.reader.specs.Steps.{next_of, past, after_of, cursor_after}
 use Rattle.reader.specs.Readings.{filled_by, sheet_after, read_sheet, read_by, read_of, Stops}
 use Rattle.reader.specs.declared.cursor.Cursor.{Cursor}
 use Rattle.reader.specs.declared.cursor.Step.{Step}
-use Rattle.reader.specs.declared.cursor.Step.TheVariants as Step
 use Rattle.reader.proofs.Moving.{Onto, StepFrom, a_head, a_cell, a_record, the_end, step_from_lem}
 use Rattle.reader.proofs.Following.{Reached, read_stops, Reading}
 use Rattle.reader.proofs.Building.{Faultless, faultless_append, Passing, loaded, length_more, load_cell, load_record, loaded_passes, loaded_sound}
@@ -55,7 +54,7 @@ module _ (text : List ℕ) (c d : Cursor) (s : Sheet) (k : FilledSoFar c s) wher
   cell_filled : (I : Interval) → cell_fault c.width I ≡ 0 → c.cell_count < 64 → Onto text c d c.width (c.cell_count + 1) c.record_count → FilledSoFar d (filled_by (Step.Cell I d) s)
   cell_filled I z l o =
       let g = k.passing in
-      let n : length k.cells < 64 = omega (arith, k.cell_count) in
+      let n : length k.cells < 64 = omega (arith, k.cell_count_lem) in
       record {
         limit = k.limit;
         cells = k.cells ++ (I ∷ []);
@@ -68,15 +67,15 @@ module _ (text : List ℕ) (c d : Cursor) (s : Sheet) (k : FilledSoFar c s) wher
           cells = faultless_append (cell_fault c.width) k.cells (I ∷ []) g.cells (z, tt);
           records = rw (length_more k.cells I) (records_more (length k.cells) k.records g.records);
         });
-        cell_count_lem = omega (arith, o.cells, k.cell_count, length_more k.cells I);
-        record_count_lem = o.records ∙ k.record_count;
+        cell_count_lem = omega (arith, o.cells, k.cell_count_lem, length_more k.cells I);
+        record_count_lem = o.records ∙ k.record_count_lem;
       }
 
   -- a record over cells
   record_filled : (t : Record) → record_fault c.cell_count t ≡ 0 → c.record_count < 128 → Onto text c d c.width c.cell_count (c.record_count + 1) → FilledSoFar d (filled_by (Step.Record t d) s)
   record_filled t z l o =
       let g = k.passing in
-      let n : length k.records < 128 = omega (arith, k.record_count) in
+      let n : length k.records < 128 = omega (arith, k.record_count_lem) in
       record {
         limit = k.limit;
         cells = k.cells;
@@ -87,10 +86,10 @@ module _ (text : List ℕ) (c d : Cursor) (s : Sheet) (k : FilledSoFar c s) wher
           few_cells = g.few_cells;
           few_records = omega (arith, length_more k.records t);
           cells = g.cells;
-          records = faultless_append (record_fault (length k.cells)) k.records (t ∷ []) g.records (rw k.cell_count at z, tt);
+          records = faultless_append (record_fault (length k.cells)) k.records (t ∷ []) g.records (rw k.cell_count_lem at z, tt);
         });
-        cell_count_lem = o.cells ∙ k.cell_count;
-        record_count_lem = omega (arith, o.records, k.record_count, length_more k.records t);
+        cell_count_lem = o.cells ∙ k.cell_count_lem;
+        record_count_lem = omega (arith, o.records, k.record_count_lem, length_more k.records t);
       }
 
 -- ---- after any number of records; where a cursor is past the start, a head was read
@@ -117,7 +116,7 @@ pub kept_counts :
     × ((cursor_after n text).record_count ≡ (sheet_after n text).record_count)
 kept_counts n text h =
     let k = so_far n text h in
-    (ap (λ (s : Sheet). s.width) (sym k.is), k.cell_count ∙ ap (λ (s : Sheet). s.cell_count) (sym k.is), k.record_count ∙ ap (λ (s : Sheet). s.record_count) (sym k.is))
+    (ap (λ (s : Sheet). s.width) (sym k.is), k.cell_count_lem ∙ ap (λ (s : Sheet). s.cell_count) (sym k.is), k.record_count_lem ∙ ap (λ (s : Sheet). s.record_count) (sym k.is))
 
 -- and this sheet passes its own test
 filled_passes : {c : Cursor} {s : Sheet} → FilledSoFar c s → test_of s ≡ Done
@@ -137,8 +136,8 @@ Fits s (Step.Refused r) = Unit {0}
 step_fits : (text : List ℕ) (c : Cursor) (s : Sheet) → (0 < c.at → FilledSoFar c s) → (t : Step) → StepFrom text c t → Fits s t
 unfolding accept_of
 step_fits text c s k (Step.Head w m d) g = tt
-step_fits text c s k (Step.Cell I d) (a_cell p f l o) = let u = k p in rw (u.is, ← u.cell_count) l
-step_fits text c s k (Step.Record t d) (a_record p f l o) = let u = k p in rw (u.is, ← u.record_count) l
+step_fits text c s k (Step.Cell I d) (a_cell p f l o) = let u = k p in rw (u.is, ← u.cell_count_lem) l
+step_fits text c s k (Step.Record t d) (a_record p f l o) = let u = k p in rw (u.is, ← u.record_count_lem) l
 step_fits text c s k Step.End (the_end p) = ap (λ (a : Answer). kept_by a s (tidied s)) (filled_passes (k p))
 step_fits text c s k (Step.Refused r) g = tt
 

@@ -3,7 +3,7 @@ ghost use Rattle.std.specs.Prelude.{◌≡◌, ◌^◌, ◌≤◌, length};
 ghost use Rattle.reader.specs.Numbers.{digit_of, value_from, numeral_of, pattern_of};
 
 // A field read as a number.
-#[derive(Drop)]
+#[derive(Clone, Copy)]
 pub(crate) enum Number {
     Value(u64),
     Malformed,
