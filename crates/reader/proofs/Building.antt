@@ -1,5 +1,5 @@
 -- Sheets by the lists of their cells and records: filled place by place, such a sheet passes its own test, and tidied it is the built one. Rests on specs/Texts and the laws of `sheet`.
-use mathlib.Core.Path.{◌≡◌, refl, sym, ap, ◌∙◌}
+use mathlib.Core.Path.{◌≡◌, refl, sym}
 use mathlib.Core.List.{List, [], ◌∷◌, ◌++◌, append_assoc}
 use Prim.Native.Nat.{ℕ, suc, ◌+◌, ◌-◌, ◌≤◌, ◌<◌}
 use native.Mathlib.Omega.{arith}

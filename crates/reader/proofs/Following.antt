@@ -1,5 +1,5 @@
 -- Reading a text record by record: the cursor and the sheet after so many records, that they stay where the reader stops, and that it stops within as many records as the text has bytes. Rests on specs/Readings and Moving.
-use mathlib.Core.Path.{◌≡◌, refl, sym, ap, ap₂, subst, ◌∙◌}
+use mathlib.Core.Path.{◌≡◌, refl, subst}
 use mathlib.Core.List.{List}
 use Prim.Native.Nat.{ℕ, zero, suc, ◌+◌, ◌-◌, ◌<◌, ◌≤◌}
 use native.Mathlib.Nat.{add-suc}
@@ -12,7 +12,7 @@ use Rattle.reader.specs.Readings.{filled_by, sheet_after, refused_text, read_by,
 use Rattle.reader.specs.declared.cursor.Cursor.{Cursor}
 use Rattle.reader.specs.declared.cursor.Step.{Step}
 use Rattle.reader.specs.declared.cursor.Step.TheVariants.{Head, Cell, Record, End, Refused}
-use Rattle.reader.proofs.Moving.{StepFrom, a_head, a_cell, a_record, the_end, too_long, a_refusal, step_from_lem}
+use Rattle.reader.proofs.Moving.{StepFrom, a_head, a_cell, a_record, step_from_lem}
 
 module _ (text : List ℕ) where
   -- ---- the state after n records

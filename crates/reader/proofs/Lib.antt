@@ -14,5 +14,3 @@ pub mod Staying
 pub mod Stepping
 pub mod Replies
 pub mod Placing
-pub mod Held
-pub mod Made

@@ -15,12 +15,9 @@ use Rattle.reader.specs.Numbers.{numeral_of, pattern_of}
 use Rattle.reader.specs.Lines.{tab, feed, sheet_word, cell_word, sum_word, head_from, cell_from, triple_from, head_in, cell_in, triple_in, line_of, diff_word, neg_word, pair_from, pair_in, record_in}
 use Rattle.reader.specs.Steps.{refused_at, head_step, cell_step, record_step, admitted, line_after, past_line, next_of, line_number}
 use Rattle.reader.specs.declared.number.Number.{Number}
-use Rattle.reader.specs.declared.number.Number.TheVariants as Number
 use Rattle.reader.specs.declared.line.Line.{Line}
-use Rattle.reader.specs.declared.line.Line.TheVariants as Line
 use Rattle.reader.specs.declared.cursor.Cursor.{Cursor}
 use Rattle.reader.specs.declared.cursor.Step.{Step}
-use Rattle.reader.specs.declared.cursor.Step.TheVariants as Step
 use Rattle.reader.proofs.Counting.{line_past}
 
 nonzero : (n : ℕ) → eqb n 0 ≡ false → 0 < n

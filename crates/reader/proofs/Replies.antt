@@ -19,7 +19,6 @@ use Rattle.reader.specs.Steps.{head_step, cell_step, record_step, admitted, past
 use Rattle.reader.specs.Replies.{step_told, line_tests, line_values, reply_at, reply_next, Tells}
 use Rattle.reader.specs.Readings.{sheet_after, read_by, stop_of, read_of, ReadsText}
 use Rattle.reader.specs.declared.line.Line.{Line}
-use Rattle.reader.specs.declared.line.Line.TheVariants as Line
 use Rattle.reader.specs.declared.cursor.Cursor.{Cursor}
 use Rattle.reader.specs.declared.cursor.Step.{Step}
 use Rattle.reader.specs.declared.cursor.Step.TheVariants.{Head, Cell, Record, End, Refused}

@@ -1,5 +1,5 @@
 -- The reader keeps the width and the counts, and gives every refusal itself: the sheet that its records fill passes the sheet's own test, and so does what is read. Rests on Moving, Following and Building.
-use mathlib.Core.Path.{◌≡◌, refl, sym, ap, ◌∙◌}
+use mathlib.Core.Path.{◌≡◌, sym, ap, ◌∙◌}
 use mathlib.Core.List.{List, [], ◌∷◌, ◌++◌}
 use Prim.Native.Nat.{ℕ, zero, suc, ◌+◌, ◌<◌}
 use native.Mathlib.Omega.{arith}
@@ -18,7 +18,6 @@ use Rattle.reader.specs.Steps.{next_of, past, after_of, cursor_after}
 use Rattle.reader.specs.Readings.{filled_by, sheet_after, read_sheet, read_by, read_of, Stops}
 use Rattle.reader.specs.declared.cursor.Cursor.{Cursor}
 use Rattle.reader.specs.declared.cursor.Step.{Step}
-use Rattle.reader.specs.declared.cursor.Step.TheVariants as Step
 use Rattle.reader.proofs.Moving.{Onto, StepFrom, a_head, a_cell, a_record, the_end, step_from_lem}
 use Rattle.reader.proofs.Following.{Reached, read_stops, Reading}
 use Rattle.reader.proofs.Building.{Faultless, faultless_append, Passing, loaded, length_more, load_cell, load_record, loaded_passes, loaded_sound}
@@ -35,8 +34,8 @@ record FilledSoFar (c : Cursor) (s : Sheet) : Type 0 where
   records : List Record
   is : s ≡ loaded c.width limit cells records
   passing : Passing c.width limit cells records
-  cell_count_lem : c.cell_count ≡ length cells
-  record_count_lem : c.record_count ≡ length records
+  cell_count : c.cell_count ≡ length cells
+  record_count : c.record_count ≡ length records
 
 -- a head
 head_filled : (text : List ℕ) (c d : Cursor) (w m : ℕ) → head_fault w m ≡ 0 → Onto text c d w 0 0 → FilledSoFar d (loaded w m [] [])
@@ -46,8 +45,8 @@ head_filled text c d w m z o = record {
   records = [];
   is = rw o.width;
   passing = rw o.width (record { head = z; few_cells = omega arith; few_records = omega arith; cells = tt; records = tt });
-  cell_count_lem = o.cells;
-  record_count_lem = o.records;
+  cell_count = o.cells;
+  record_count = o.records;
 }
 
 module _ (text : List ℕ) (c d : Cursor) (s : Sheet) (k : FilledSoFar c s) where
@@ -68,8 +67,8 @@ module _ (text : List ℕ) (c d : Cursor) (s : Sheet) (k : FilledSoFar c s) wher
           cells = faultless_append (cell_fault c.width) k.cells (I ∷ []) g.cells (z, tt);
           records = rw (length_more k.cells I) (records_more (length k.cells) k.records g.records);
         });
-        cell_count_lem = omega (arith, o.cells, k.cell_count, length_more k.cells I);
-        record_count_lem = o.records ∙ k.record_count;
+        cell_count = omega (arith, o.cells, k.cell_count, length_more k.cells I);
+        record_count = o.records ∙ k.record_count;
       }
 
   -- a record over cells
@@ -89,8 +88,8 @@ module _ (text : List ℕ) (c d : Cursor) (s : Sheet) (k : FilledSoFar c s) wher
           cells = g.cells;
           records = faultless_append (record_fault (length k.cells)) k.records (t ∷ []) g.records (rw k.cell_count at z, tt);
         });
-        cell_count_lem = o.cells ∙ k.cell_count;
-        record_count_lem = omega (arith, o.records, k.record_count, length_more k.records t);
+        cell_count = o.cells ∙ k.cell_count;
+        record_count = omega (arith, o.records, k.record_count, length_more k.records t);
       }
 
 -- ---- after any number of records; where a cursor is past the start, a head was read

@@ -3,7 +3,6 @@ use Rattle.std.specs.Prelude.{ℕ, cond, List, [], ◌∷◌, eqb}
 use Rattle.reader.specs.Bytes.{before, after, is_same}
 use Rattle.reader.specs.Numbers.{numeral_of, pattern_of}
 use Rattle.reader.specs.declared.number.Number.{Number}
-use Rattle.reader.specs.declared.number.Number.TheVariants as Number
 use Rattle.reader.specs.declared.line.Line.{Line}
 use Rattle.reader.specs.declared.line.Line.TheVariants.{Head, Cell, Record, Malformed}
 

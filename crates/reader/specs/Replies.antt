@@ -7,7 +7,6 @@ use Rattle.sheet.specs.Replies.{test_at, faultless}
 use Rattle.reader.specs.Bytes.{index_of, before}
 use Rattle.reader.specs.Lines.{feed, line_of}
 use Rattle.reader.specs.declared.line.Line.{Line}
-use Rattle.reader.specs.declared.line.Line.TheVariants as Line
 use Rattle.reader.specs.declared.cursor.Cursor.{Cursor}
 use Rattle.reader.specs.declared.cursor.Step.{Step}
 use Rattle.reader.specs.declared.cursor.Step.TheVariants.{Head, Cell, Record, End, Refused}

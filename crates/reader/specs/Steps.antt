@@ -6,11 +6,9 @@ use Rattle.sheet.specs.Faults.{head_fault, cell_fault, record_fault}
 use Rattle.reader.specs.Bytes.{index_of, before, count_of}
 use Rattle.reader.specs.Lines.{feed, line_of}
 use Rattle.reader.specs.declared.line.Line.{Line}
-use Rattle.reader.specs.declared.line.Line.TheVariants as Line
 use Rattle.reader.specs.declared.cursor.Cursor.{Cursor}
 use Rattle.reader.specs.declared.cursor.Moved.{Moved}
 use Rattle.reader.specs.declared.cursor.Step.{Step}
-use Rattle.reader.specs.declared.cursor.Step.TheVariants as Step
 
 -- the cursor at the start of a text
 abbrev pub start : Cursor

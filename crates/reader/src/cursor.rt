@@ -12,7 +12,7 @@ use sheet::fault::{cell_fault, head_fault, record_fault};
 use sheet::kept::Record;
 
 // Where the next record stands and in which line, the width that the head gave, and the counts of cells and records so far.
-#[derive(Drop)]
+#[derive(Clone, Copy)]
 pub struct Cursor {
     pub at: usize,
     pub line: u64,
@@ -22,7 +22,7 @@ pub struct Cursor {
 }
 
 // What stands at a cursor: a record with the cursor after it, the end of the text, or a refusal.
-#[derive(Drop)]
+#[derive(Clone, Copy)]
 pub enum Step {
     Head {
         width: u64,
@@ -42,7 +42,7 @@ pub enum Step {
 }
 
 // A step, and the cursor after it.
-#[derive(Drop)]
+#[derive(Clone, Copy)]
 pub struct Moved {
     pub cursor: Cursor,
     pub step: Step,

@@ -8,7 +8,7 @@ use arith::interval::Interval;
 use sheet::kept::Record;
 
 // What a line says.
-#[derive(Drop)]
+#[derive(Clone, Copy)]
 pub(crate) enum Line {
     Head { width: u64, limit: u64 },
     Cell(Interval),

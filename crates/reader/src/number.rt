@@ -3,7 +3,7 @@ ghost use Rattle.std.specs.Prelude.{◌≡◌, ◌^◌, ◌≤◌, length};
 ghost use Rattle.reader.specs.Numbers.{digit_of, value_from, numeral_of, pattern_of};
 
 // A field read as a number.
-#[derive(Drop)]
+#[derive(Clone, Copy)]
 pub(crate) enum Number {
     Value(u64),
     Malformed,
@@ -54,6 +54,7 @@ fn value(f: &[u8], base: u64) -> Number
 }
 
 // A decimal numeral: 1 to 5 digits, no leading zero but 0 itself.
+#[tactic(auto, unfolding(crate::specs::Numbers::numeral_of))]
 pub(crate) fn numeral(f: &[u8]) -> Number
     ensures { result ≡ numeral_of f.now }
 {

@@ -1,5 +1,4 @@
-// The reader: a struct with the caller's text and a cursor in it, and thin functions over the covered cursor.
-// The borrow checker covers no function over such a struct, so each is proved by hand. A caller of `nth` and `part`, whose parameters are plain, is covered.
+// The reader: a struct with the caller's text and a cursor in it, and thin functions over the cursor's.
 ghost use Rattle.std.specs.Prelude.{◌≡◌};
 ghost use Rattle.reader.specs.Bytes.{PartOf};
 ghost use Rattle.reader.specs.Steps.{start, next_of, after_of, cursor_after, record_at, record_start};
@@ -8,14 +7,14 @@ ghost use Rattle.reader.specs.Replies.{step_told, reply_next, Tells};
 use crate::cursor::{Cursor, Step, advance, record_at, skip};
 
 // A text, and where its next record stands.
-#[derive(Drop)]
+#[derive(Clone, Copy)]
 pub struct Reader<'a> {
     pub text: &'a [u8],
     pub cursor: Cursor,
 }
 
 // What a reader gives, and the reader after it.
-#[derive(Drop)]
+#[derive(Clone, Copy)]
 pub struct Given<'a> {
     pub reader: Reader<'a>,
     pub step: Step,
