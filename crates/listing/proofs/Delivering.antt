@@ -12,10 +12,8 @@ use Rattle.arith.specs.Refusals.{refusal}
 use Rattle.arith.proofs.Replies.{on_test, told_chain}
 use Rattle.sheet.specs.declared.kept.Sheet.{Sheet}
 use Rattle.sheet.specs.declared.kept.Answer.{Answer}
-use Rattle.sheet.specs.declared.kept.Answer.TheVariants as Answer
 use Rattle.propagation.specs.declared.narrowing.Run.{Run}
 use Rattle.propagation.specs.declared.passes.Outcome.{Outcome}
-use Rattle.propagation.specs.declared.passes.Outcome.TheVariants as Outcome
 use Rattle.sheet.specs.Sheets.{test_of}
 use Rattle.propagation.specs.Runs.{Ended, settled, stopped, no_triple}
 use Rattle.propagation.specs.Narrowings.{end_of, ran_on, run_after, narrow_sheet_of}

@@ -6,7 +6,6 @@ use native.Mathlib.Omega.{arith}
 use Rattle.arith.specs.declared.refusal.Refusal.{Refusal}
 use Rattle.sheet.specs.declared.kept.Sheet.{Sheet}
 use Rattle.sheet.specs.declared.kept.Answer.{Answer}
-use Rattle.sheet.specs.declared.kept.Answer.TheVariants as Answer
 use Rattle.propagation.specs.declared.passes.Outcome.TheVariants.{Refused}
 use Rattle.propagation.specs.Runs.{Ended, settled, stopped, no_triple}
 use Rattle.sheet.specs.Sheets.{test_of}

@@ -6,7 +6,6 @@ use Rattle.arith.specs.Replies.{Test, reply_after}
 use Rattle.arith.specs.declared.refusal.Refusal.{Refusal}
 use Rattle.propagation.specs.declared.narrowing.Run.{Run}
 use Rattle.propagation.specs.declared.passes.Outcome.{Outcome}
-use Rattle.propagation.specs.declared.passes.Outcome.TheVariants as Outcome
 use Rattle.listing.specs.Listings.{listing_of}
 use Rattle.listing.specs.declared.writer.Written.{Written}
 use Rattle.listing.specs.declared.writer.Written.TheVariants.{Length, Refused}

@@ -13,7 +13,7 @@ use propagation::passes::Outcome;
 use sheet::kept::Sheet;
 
 // How many bytes were written, or the refusal that left the buffer as it was.
-#[derive(Drop)]
+#[derive(Clone, Copy)]
 pub enum Written {
     Length(usize),
     Refused(Refusal),
