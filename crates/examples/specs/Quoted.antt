@@ -1,6 +1,5 @@
 -- Quoted texts as bytes. Assumes nothing.
 use Rattle.std.specs.Prelude.{List, ℕ}
-use mathlib.Core.List as List
 use Prim.Native.Char.{code}
 use Prim.Native.String.{String, [], ◌∷◌}
 

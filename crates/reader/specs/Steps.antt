@@ -100,6 +100,6 @@ record_at text c = cond (ltb 8192 (length text)) [] (before feed (drop c.at text
 unfoldable pub record_start : List ℕ → Cursor → ℕ
 record_start text c = cond (ltb 8192 (length text)) 0 (min c.at (length text))
 
--- 01's line at a position, from 1: one more than the line feeds before it. A cursor reached from the start keeps it (`Kept-line`, proofs/Placing)
+-- 01's line at a position, from 1: one more than the line feeds before it. A cursor reached from the start keeps it (`kept_line`, proofs/Placing)
 unfoldable pub line_number : List ℕ → ℕ → ℕ
 line_number text at = count_of feed (take at text) + 1
