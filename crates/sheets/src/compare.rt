@@ -73,8 +73,7 @@ pub(crate) fn narrow_both(
     records: Records,
     m: usize,
 ) -> Both
-    requires cells { n ≤ 66 }
-    requires records { m ≤ 130 }
+    requires { (n ≤ 66) × (m ≤ 130) }
 {
     let given = cells.lent;
     let kept_cells = cells.kept;
@@ -111,8 +110,7 @@ fn compare_case(
     records: Records,
     m: usize,
 ) -> Tally
-    requires cells { n ≤ 66 }
-    requires records { m ≤ 130 }
+    requires { (n ≤ 66) × (m ≤ 130) }
 {
     let both = narrow_both(width, limit, cells, n, records, m);
     let left = both.left;

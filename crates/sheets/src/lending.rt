@@ -26,8 +26,7 @@ pub(crate) fn lend(
     records: [Record; 130],
     m: usize,
 ) -> Left
-    requires cells { n ≤ 66 }
-    requires records { m ≤ 130 }
+    requires { (n ≤ 66) × (m ≤ 130) }
 {
     let outcome = narrow_lists(width, limit, &mut cells[..n], &records[..m]);
     gather(cells, outcome)

@@ -108,8 +108,7 @@ fn read(
     reply: Reply,
     expected: Four,
 )
-    requires cells { n ≤ 66 }
-    requires records { m ≤ 130 }
+    requires { (n ≤ 66) × (m ≤ 130) }
 {
     put_text(stdout, b", limit");
     put_number(stdout, limit);
