@@ -7,6 +7,7 @@ use arith::format::known;
 use arith::interval::{Image, Interval};
 
 // 0 for a known width and an allowed pass limit, else 1 or 7.
+#[tactic(auto, unfolding(crate::specs::Faults::head_fault))]
 pub fn head_fault(width: u64, limit: u64) -> u64
     ensures { result ≡ head_fault width limit }
 {
@@ -33,6 +34,7 @@ pub fn cell_fault(width: u64, cell: Interval) -> u64
 }
 
 // 0 for two cells that are there, else 5.
+#[tactic(auto, unfolding(crate::specs::Faults::named_fault))]
 fn pair_fault(cell_count: u64, x: u64, a: u64) -> u64
     ensures { result ≡ named_fault cell_count (x ∷ a ∷ []) }
 {
@@ -46,6 +48,7 @@ fn pair_fault(cell_count: u64, x: u64, a: u64) -> u64
 }
 
 // 0 for three cells that are there, else 5.
+#[tactic(auto, unfolding(crate::specs::Faults::named_fault))]
 fn triple_fault(cell_count: u64, x: u64, a: u64, b: u64) -> u64
     ensures { result ≡ named_fault cell_count (x ∷ a ∷ b ∷ []) }
 {
@@ -56,6 +59,7 @@ fn triple_fault(cell_count: u64, x: u64, a: u64, b: u64) -> u64
 }
 
 // 0 for a record of a known kind whose cells are there, else 4 or 5. The third number of a neg is 0, else 4, and names no cell.
+#[tactic(auto, unfolding(crate::specs::Faults::record_fault))]
 pub fn record_fault(cell_count: u64, record: Record) -> u64
     ensures { result ≡ record_fault cell_count «record» }
 {
