@@ -39,6 +39,7 @@ fn put_all(out: &mut [u8], x: Interval, a: Interval, b: Interval)
 }
 
 // The answer's number, and its ends in the buffer where there is room.
+#[tactic(auto, using(crate::proofs::Placing::room_number, crate::proofs::Placing::room_buffer))]
 pub fn put_answer(out: &mut [u8], answer: Narrowed) -> u64
     ensures value { result ≡ export_number (length out.old) answer }
     ensures out_after { out.new ≡ export_buffer out.old answer }

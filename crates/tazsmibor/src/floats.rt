@@ -36,6 +36,7 @@ fn floats_of(i: Interval) -> Floats
 }
 
 // The values of x, a and b that stand in triples, none for all three where there is no triple; refusals 2 for x, a, b, then 3 for x, a, b.
+#[tactic(auto, using(crate::proofs::Floating::floats_none, crate::proofs::Floating::floats_refused, crate::proofs::Floating::floats_told_lem))]
 pub fn narrow_floats(x: Interval, a: Interval, b: Interval) -> FloatAnswer
     ensures value { result ≡ narrow_floats_of x a b }
     ensures reply { floats_told result ≡ reply_after (given_tests 64 x a b) (float_values x a b) }

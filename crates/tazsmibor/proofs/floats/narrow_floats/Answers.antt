@@ -1,13 +1,13 @@
 -- `tazsmibor::floats::narrow_floats` meets its contract: the answer of the narrowing, case by case. Assumes nothing.
 use mathlib.Core.Path.{◌≡◌, sym}
 use mathlib.Core.Bool.{true}
-use Rattle.arith.specs.declared.narrow.Narrowed.TheVariants.{Ends, Refused}
+use Rattle.arith.specs.declared.narrow.Narrowed.TheVariants.{Ends}
 use Rattle.arith.specs.Formats.{format_of}
 use Rattle.arith.specs.Intervals.{ends_finite}
 use Rattle.arith.specs.Narrows.{narrow_of}
 use Rattle.tazsmibor.specs.Floating.{floats_told}
 use Rattle.arith.proofs.Callers.{narrow_answered, answered_finite}
-use Rattle.tazsmibor.proofs.Floating.{floats_ends, floats_none, floats_refused, floats_told_lem}
+use Rattle.tazsmibor.proofs.Floating.{floats_ends, floats_told_lem}
 use Rattle.arith.proofs.Replies.{told_too}
 use Rattle.tazsmibor.proofs.floats.narrow_floats.Goals as goal
 use Rattle.tazsmibor.proofs.floats.narrow_floats.Goals.{In-Ends}
@@ -36,20 +36,4 @@ returns-in-Ends c =
     let p =
     told_too floats_told (floats_told_lem a.x a.a a.b)
     (floats_ends a.x a.a a.b _ _ _ _ _ _ c.floats_of.ensures c.floats_of-in-Ends.ensures c.floats_of-in-Ends-2.ensures (ends-are (goal.at.returns-in-Ends c).In-Ends)) in
-    record { value = p.0; reply = p.1 }
-
-pub returns-then-refusal-eq11 : goal.returns-then-refusal-eq11
-returns-then-refusal-eq11 c =
-    let a = c.args in
-    let e : Refused c.in-Refused.refusal ≡ narrow_of 64 a.x a.a a.b = rw c.in-Refused.is at c.narrow.ensures.value in
-    let p =
-    told_too floats_told (floats_told_lem a.x a.a a.b) (floats_none a.x a.a a.b _ c.if-refusal-eq11.true e) in
-    record { value = p.0; reply = p.1 }
-
-pub returns-else-refusal-eq11 : goal.returns-else-refusal-eq11
-returns-else-refusal-eq11 c =
-    let a = c.args in
-    let e : Refused c.in-Refused.refusal ≡ narrow_of 64 a.x a.a a.b = rw c.in-Refused.is at c.narrow.ensures.value in
-    let p =
-    told_too floats_told (floats_told_lem a.x a.a a.b) (floats_refused a.x a.a a.b _ c.if-refusal-eq11.false e) in
     record { value = p.0; reply = p.1 }
