@@ -1,8 +1,7 @@
 -- x ⊕ a = x at a format: what the calls found is how much is absorbed, the least and the greatest x that absorb one a, and so the narrowing. Rests on `ladder`'s Absorption.
-use Rattle.std.proofs.Common.{◌≡◌, ℕ, ◌+◌, ◌-◌, ◌*◌, ◌/◌, ◌%◌, ◌^◌, ◌<◌, ◌≤◌, min, max, Bool, true, false, leb, sym, refl, ap, ◌∙◌, subst, inl, inr, true≢false, mul-le-mul_right, div-mul-le_self, arith, pow_pos, pow_mono, pow-add, eq-eqb, ne_eqb, eqb-true, le-leb}
+use Rattle.std.proofs.Common.{◌≡◌, ℕ, ◌+◌, ◌-◌, ◌*◌, ◌/◌, ◌%◌, ◌^◌, ◌<◌, ◌≤◌, min, max, Bool, true, false, None, Some, sym, refl, ap, ◌∙◌, subst, true≢false, mul-le-mul_right, div-mul-le_self, arith, pow_pos, pow_mono, pow-add, eq-eqb, eqb-true}
 use lib.Ieee.{size}
 use lib.Ieee.Digits.{size-le}
-use borrow.Author.Tests.{lt-leb}
 use Rattle.ladder.specs.Magnitude.{magnitude, shift, significand}
 use Rattle.ladder.specs.Ordinal as O
 use Rattle.ladder.specs.Solution as L
@@ -10,31 +9,20 @@ use Rattle.ladder.specs.Search.{Least, Greatest}
 use Rattle.ladder.specs.Pairing as P
 use Rattle.ladder.specs.Pairing.{none}
 use Rattle.ladder.specs.Absorption.{step_place, Coarse}
-use Rattle.ladder.proofs.Cases.{le_or_lt}
 use Rattle.ladder.proofs.Magnitude.{parts}
 use Rattle.ladder.proofs.Solutions.{finite_in}
 use Rattle.ladder.proofs.Pairing.{pairing_unique, pairing_none, pairing_hull}
 use Rattle.ladder.proofs.Absorption.{half_step_le, power_pos, absorbs_zero, absorbs_half_step, around_absorbed, absorbed_zero, absorbed_greatest, absorbed_none, mirror_none, mirror_least, mirror_hull, around_hull, above_none, above_hull, absorbs_far, absorbs_far_below, least_bounds, greatest_bounds}
 use Rattle.arith.specs.declared.format.Format.{Format}
 use Rattle.arith.specs.declared.range.Range.{Range}
-use Rattle.arith.specs.declared.repeated.Couple.TheVariants as Couple
+use Rattle.arith.specs.declared.repeated.Couple.{Couple}
 use Rattle.arith.specs.Formats.{Sound, Finite, sum, mirrored}
 use Rattle.arith.specs.Exacts.{Encodable}
 use Rattle.arith.specs.Intervals.{Bounded, span, reflected}
 use Rattle.arith.specs.Repeats.{absorbing}
-use Rattle.arith.specs.PairSearches.{Filled, BothFilled, coupled, absorbs, AbsorbsTo, AbsorbedTo, Absorber, FromZero, Nonzero, Sought, LowMisses, HighMisses}
+use Rattle.arith.specs.PairSearches.{Filled, BothFilled, coupled, absorbs, AbsorbsTo, AbsorbedTo, Absorber, Sought, LowMisses, HighMisses}
 use Rattle.arith.proofs.Formats.{infinity_lt}
 use Rattle.arith.proofs.Intervals.{reflected_ends}
-
--- ---- the test
--- c at most what x absorbs up to
-pub absorbs_is : (F : Format) → Sound F → (x c r : ℕ) → AbsorbsTo F x r → F.sign ≤ c → leb c r ≡ absorbs F x c
-absorbs_is F ok x c r R up =
-    let h = R c (omega (arith, ok.sign)) in
-    elim (le_or_lt c r) [
-      | inl l ↦ le-leb c r l ∙ sym (eq-eqb (sum F x c) x (h.1 l))
-      | inr l ↦ lt-leb c r l ∙ sym (ne_eqb (sum F x c) x (λ is. omega (arith, h.0 is)))
-    ]
 
 -- ---- how much one x absorbs: d is the place of its step, q the field of that
 module _ (F : Format) (ok : Sound F) (x : ℕ) (n : Finite F x) {d q : ℕ} (at : d ≡ step_place F.fraction F.exponent x) (field : q ≡ d / 2 ^ F.fraction) where
@@ -82,19 +70,10 @@ module _ (F : Format) (X : Range) (g : Filled F X) where
   abbrev above_part : Range
   above_part = record { low = F.sign; high = X.high }
 
-  inner : (y : ℕ) → X.low ≤ y → y ≤ X.high → Finite F y
-  inner y l h = finite_in F.fraction F.exponent (span X) g.ends y (record { low = l; high = h })
-
-  pub part_below : X.low < F.sign → F.sign ≤ X.high → Filled F below_part
-  part_below l h = record { sound = g.sound; ends = record { low = g.ends.low; high = inner _ (omega arith) (omega arith) }; order = omega arith }
-
-  pub part_above : X.low < F.sign → F.sign ≤ X.high → Filled F above_part
-  part_above l h = record { sound = g.sound; ends = record { low = inner _ (omega arith) h; high = g.ends.high }; order = h }
-
   pub around_absorbs : X.low < F.sign → F.sign ≤ X.high → {p q : ℕ} → AbsorbedTo F below_part p → AbsorbedTo F above_part q → AbsorbedTo F X (max p q)
   around_absorbs l h {p} {q} P Q =
-      let e = g.sound.sign in
-      around_absorbed F.fraction F.exponent g.sound.some (span X) g.ends g.order (omega arith) (omega arith) p q
+      let e = F.sound.sign in
+      around_absorbed F.fraction F.exponent F.sound.some (span X) g.ends g.order (omega arith) (omega arith) p q
       (subst (λ (s : ℕ). AbsorbedTo F (record { low = X.low; high = s - 1 }) p) e P)
       (subst (λ (s : ℕ). AbsorbedTo F (record { low = s; high = X.high }) q) e Q)
 
@@ -116,47 +95,10 @@ absorber F c X x e t l h = record { inside = record { low = l; high = h }; is = 
 pub no_absorber : (F : Format) (c x : ℕ) {r : Bool} → r ≡ absorbs F x c → r ≡ false → sum F x c ≡ x → ⊥
 no_absorber F c x e t is = true≢false (sym (eq-eqb (sum F x c) x is) ∙ sym e ∙ t)
 
--- what the calls of such a search ask for
-module _ (F : Format) (c : ℕ) (X : Range) (g : Sought F c X) where
-  pub sought_from : (x : ℕ) → X.low ≤ x → x ≤ X.high → FromZero F x c
-  sought_from x l h = record {
-    sound = g.range.sound;
-    finite = finite_in F.fraction F.exponent (span X) g.range.ends x (record { low = l; high = h });
-    from = omega (arith, g.positive);
-  }
-
-  pub sought_nonzero : Nonzero F (c - F.sign)
-  sought_nonzero = let ok = g.range.sound in record {
-    sound = ok;
-    some = omega (arith, g.positive);
-    finite = omega (arith, ok.sign, ok.infinity, g.finite.high, g.positive);
-  }
-
-module _ (F : Format) (c : ℕ) (X : Range) where
-  -- the low end, or the number after it
-  pub next_least : (y : ℕ) → y ≡ min (X.low + 1) X.high → (sum F X.low c ≡ X.low → ⊥) → Absorber F c X y → Least (Absorber F c X) y
-  next_least y e p is = record {
-    holds = is;
-    least = λ z k. elim (le_or_lt z X.low) [
-      | inl l ↦ let eq : z ≡ X.low = omega (arith, k.inside.low) in absurd (p (subst (λ (v : ℕ). sum F v c ≡ v) eq k.is))
-      | inr l ↦ omega arith
-    ];
-  }
-
-  -- the high end, or the number before it
-  pub next_greatest : (y : ℕ) → y ≡ max (X.high - 1) X.low → (sum F X.high c ≡ X.high → ⊥) → Absorber F c X y → Greatest (Absorber F c X) y
-  next_greatest y e p is = record {
-    holds = is;
-    most = λ z k. elim (le_or_lt X.high z) [
-      | inl l ↦ let eq : z ≡ X.high = omega (arith, k.inside.high) in absurd (p (subst (λ (v : ℕ). sum F v c ≡ v) eq k.is))
-      | inr l ↦ omega arith
-    ];
-  }
-
 -- else the place with a coarse enough step
 module _ (F : Format) (c : ℕ) (X : Range) (g : Sought F c X) (t : ℕ) (C : Coarse F.fraction (c - F.sign) t) where
   abbrev ok : Sound F
-  ok = g.range.sound
+  ok = F.sound
 
   abbrev f : ℕ
   f = F.fraction
@@ -198,7 +140,7 @@ module _ (F : Format) (c : ℕ) (X : Range) (g : Sought F c X) (t : ℕ) (C : Co
 -- ---- the narrowing
 module _ (F : Format) (X A : Range) (g : BothFilled F X A) where
   abbrev sound : Sound F
-  sound = g.first.sound
+  sound = F.sound
 
   abbrev test : ℕ → ℕ → Bool
   test = P.absorbs F.fraction F.exponent
@@ -209,16 +151,16 @@ module _ (F : Format) (X A : Range) (g : BothFilled F X A) where
   abbrev na : Bounded F A
   na = g.second.ends
 
-  is_none : ((x a : ℕ) → P.Pair test (span X) (span A) x a → ⊥) → coupled Couple.None ≡ absorbing F X A
+  is_none : ((x a : ℕ) → P.Pair test (span X) (span A) x a → ⊥) → coupled None ≡ absorbing F X A
   is_none = pairing_unique test (span X) (span A) none
 
   -- no a is small enough
-  pub too_large : (r : ℕ) → AbsorbedTo F X r → F.sign < A.low → r < A.low → coupled Couple.None ≡ absorbing F X A
+  pub too_large : (r : ℕ) → AbsorbedTo F X r → F.sign < A.low → r < A.low → coupled None ≡ absorbing F X A
   too_large r R l k =
       is_none (absorbed_none F.fraction F.exponent sound.some (span X) nx g.first.order (span A) r R (omega (arith, sound.sign)) k)
 
   -- no x absorbs the least a
-  pub absorber_none : F.sign < A.low → ((z : ℕ) → Absorber F A.low X z → ⊥) → coupled Couple.None ≡ absorbing F X A
+  pub absorber_none : F.sign < A.low → ((z : ℕ) → Absorber F A.low X z → ⊥) → coupled None ≡ absorbing F X A
   absorber_none l N =
       is_none (above_none F.fraction F.exponent sound.some (span X) (span A) nx (omega (arith, sound.sign)) g.second.order N)
 
@@ -227,7 +169,7 @@ module _ (F : Format) (X A : Range) (g : BothFilled F X A) where
 
   pub above_ends :
       F.sign < A.low → (l u r : ℕ) → Least (Absorber F A.low X) l → Greatest (Absorber F A.low X) u → AbsorbedTo F X r → A.low ≤ r →
-      coupled (Couple.Ends (record { low = l; high = u }) (record { low = A.low; high = min A.high r })) ≡ absorbing F X A
+      coupled (Some (record { p = record { low = l; high = u }; q = record { low = A.low; high = min A.high r } })) ≡ absorbing F X A
   above_ends p l u r L U R k =
       pairing_unique test (span X) (span A) _
       (above_hull F.fraction F.exponent sound.some (span X) (span A) nx (omega (arith, sound.sign)) g.second.order l u (min A.high r) L U
@@ -236,26 +178,26 @@ module _ (F : Format) (X A : Range) (g : BothFilled F X A) where
   -- ---- in the mirror
   pub mirror_filled : BothFilled F (reflected F X) (reflected F A)
   mirror_filled = record {
-    first = record { sound = sound; ends = reflected_ends F X _ refl nx; order = omega (arith, g.first.order) };
-    second = record { sound = sound; ends = reflected_ends F A _ refl na; order = omega (arith, g.second.order) };
+    first = record { ends = reflected_ends F X _ refl nx; order = omega (arith, g.first.order) };
+    second = record { ends = reflected_ends F A _ refl na; order = omega (arith, g.second.order) };
   }
 
-  pub mirrored_none : coupled Couple.None ≡ absorbing F (reflected F X) (reflected F A) → coupled Couple.None ≡ absorbing F X A
+  pub mirrored_none : coupled None ≡ absorbing F (reflected F X) (reflected F A) → coupled None ≡ absorbing F X A
   mirrored_none e = is_none (mirror_none F.fraction F.exponent sound.some (span X) (span A) nx na (pairing_none test _ _ (sym e)))
 
-  pub mirrored_ends_lem : (P Q : Range) → coupled (Couple.Ends P Q) ≡ absorbing F (reflected F X) (reflected F A) → coupled (Couple.Ends (reflected F P) (reflected F Q)) ≡ absorbing F X A
-  mirrored_ends_lem P Q e =
+  pub mirrored_ends_lem : (c : Couple) → coupled (Some c) ≡ absorbing F (reflected F X) (reflected F A) → coupled (Some (record { p = reflected F c.p; q = reflected F c.q })) ≡ absorbing F X A
+  mirrored_ends_lem c e =
       pairing_unique test (span X) (span A) _
-      (mirror_hull F.fraction F.exponent sound.some (span X) (span A) nx na (span P) (span Q) (pairing_hull test _ _ (span P) (span Q) (sym e)))
+      (mirror_hull F.fraction F.exponent sound.some (span X) (span A) nx na (span c.p) (span c.q) (pairing_hull test _ _ (span c.p) (span c.q) (sym e)))
 
 -- zero inside A: r is what is absorbed, m what is absorbed in the mirror
 pub around_ends :
     (F : Format) (X A : Range) → BothFilled F X A → A.low ≤ F.sign → F.sign ≤ A.high → (r m : ℕ) → AbsorbedTo F X r → AbsorbedTo F (reflected F X) m →
-    coupled (Couple.Ends X (record { low = mirrored F (min (reflected F A).high m); high = min A.high r })) ≡ absorbing F X A
+    coupled (Some (record { p = X; q = record { low = mirrored F (min (reflected F A).high m); high = min A.high r } })) ≡ absorbing F X A
 around_ends F X A g dn up r m R M =
     let f = F.fraction in
     let d = F.exponent in
-    let ok = g.first.sound in
+    let ok = F.sound in
     let some = ok.some in
     let n = mirror_filled F X A g in
     let z = absorbed_zero f d some (span X) g.first.ends g.first.order r R in
@@ -268,7 +210,7 @@ around_ends F X A g dn up r m R M =
 -- the ends found there are finite
 pub around_finite : (F : Format) (X A : Range) → BothFilled F X A → A.low ≤ F.sign → (m : ℕ) → AbsorbedTo F (reflected F X) m → Finite F (min (reflected F A).high m)
 around_finite F X A g dn m M =
-    let ok = g.first.sound in
+    let ok = F.sound in
     let n = mirror_filled F X A g in
     let y = absorbed_zero F.fraction F.exponent ok.some (span (reflected F X)) n.first.ends n.first.order m M in
     record { low = omega (arith, y, ok.sign, g.second.ends.low.low); high = omega (arith, n.second.ends.high.high) }

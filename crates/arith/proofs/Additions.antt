@@ -1,5 +1,5 @@
 -- What the forward sum's definition promises: the reply due, and 02's sentences on the remainder. Rests on `ladder`'s Remainder and Values.
-use Rattle.std.proofs.Common.{◌≡◌, ℕ, ◌+◌, ◌^◌, Bool, true, false, cond, ltb, ◌↔◌, sym, refl, ap, ◌∙◌, true≢false, arith, ltb-true, eq-eqb, eqb-true}
+use Rattle.std.proofs.Common.{◌≡◌, ℕ, ◌+◌, ◌^◌, Bool, true, false, cond, ltb, ◌↔◌, sym, refl, ap, ◌∙◌, Result, Err, true≢false, arith, ltb-true, eq-eqb, eqb-true}
 use Rattle.ladder.specs.Ordinal.{above, below}
 use Rattle.ladder.specs.Ordinal as L
 use Rattle.ladder.specs.Values.{units_above, units_below}
@@ -7,23 +7,25 @@ use Rattle.ladder.proofs.Ordinals.{ordinal_finite, pattern_finite, ordinal_patte
 use Rattle.ladder.proofs.Remainder.{sum_remainder, remainder_zero}
 use Rattle.ladder.proofs.Values.{written}
 use Rattle.arith.specs.declared.format.Format.{Format}
+use Rattle.arith.specs.declared.refusal.Reason.{Reason}
+use Rattle.arith.specs.declared.refusal.Refusal.{Refusal}
 use Rattle.arith.specs.declared.sum.Sum.{Sum}
-use Rattle.arith.specs.declared.sum.Sum.TheVariants.{Refused}
+use Rattle.arith.specs.declared.sum.Mark.{Mark}
 use Rattle.arith.specs.Refusals.{refusal}
 use Rattle.arith.specs.Formats.{format_of, Sound, is_finite, is_known, ordinal, pattern, sum, remainder}
 use Rattle.arith.specs.Sums.{is_finite_ordinal, mark_for, is_exact, mark_of, in_range, add_in, add_of}
 use Rattle.arith.specs.Additions.{Remains, LeavesRemainder, GivesSum}
-use Rattle.arith.proofs.Formats.{both, infinity_lt, sound, ordinal_low, pattern_high}
+use Rattle.arith.proofs.Formats.{both, infinity_lt, ordinal_low, pattern_high}
 use Rattle.arith.proofs.Replies.{add_told}
 
 -- ---- 01's mark is 0 exactly where the sum is exact
-mark_zero : (f m : ℕ) (exact : Bool) → (mark_for f m exact ≡ 0) ↔ (exact ≡ true)
+mark_zero : (f m : ℕ) (exact : Bool) → (mark_for f m exact ≡ Mark.Exact) ↔ (exact ≡ true)
 mark_zero f m true = (λ e. refl, λ e. refl)
 mark_zero f m false = (λ e. absurd (positive (ltb m (2 ^ f)) e), λ e. absurd (true≢false (sym e)))
   where
-    positive : (b : Bool) → cond {A = ℕ} b 2 1 ≡ 0 → ⊥
-    positive true e = omega arith
-    positive false e = omega arith
+    positive : (b : Bool) → cond b Mark.Subnormal Mark.Rounded ≡ Mark.Exact → ⊥
+    positive true e = let z : ◌≡◌ {A = ℕ} 0 1 = cc in omega arith
+    positive false e = let z : ◌≡◌ {A = ℕ} 0 1 = cc in omega arith
 
 module _ (F : Format) (ok : Sound F) where
   abbrev f : ℕ
@@ -72,7 +74,7 @@ module _ (F : Format) (ok : Sound F) where
         let ur = pattern_units r C.finite in
         let z = pattern_zero r C.finite in
         let t = remainder_zero f e ok.some (ordinal F x) (ordinal F a) s r C in
-        let m : (mark_of F (ordinal F x) (ordinal F a) s ≡ 0) ↔ (is_exact F (ordinal F x) (ordinal F a) s ≡ true) = mark_zero f _ _ in
+        let m : (mark_of F (ordinal F x) (ordinal F a) s ≡ Mark.Exact) ↔ (is_exact F (ordinal F x) (ordinal F a) s ≡ true) = mark_zero f _ _ in
         record {
           whole = omega (arith, C.whole, wx.up, wx.down, wa.up, wa.down);
           finite = pattern_finite f e r C.finite;
@@ -83,7 +85,7 @@ module _ (F : Format) (ok : Sound F) where
 -- ---- the answer
 module _ (width x a : ℕ) where
   -- one test: a refusal has no remainder
-  after : (b : Bool) (n : ℕ) (rest : Sum) → (b ≡ true → LeavesRemainder width x a rest) → LeavesRemainder width x a (cond b rest (Refused (refusal n)))
+  after : (b : Bool) (n : Reason) (rest : Result Sum Refusal) → (b ≡ true → LeavesRemainder width x a rest) → LeavesRemainder width x a (cond b rest (Err (refusal n)))
   after true n rest h = h refl
   after false n rest h = tt
 
@@ -91,10 +93,10 @@ module _ (width x a : ℕ) where
   unfolding add_of add_in in_range
   leaves =
       let F = format_of width in
-      after (is_known width) 1 _ (λ _.
-      after (is_finite F x) 2 _ (λ X.
-      after (is_finite F a) 2 _ (λ A.
-      after (is_finite_ordinal F _) 9 _ (remains F (sound width) x a X A))))
+      after (is_known width) Reason.Width _ (λ _.
+      after (is_finite F x) Reason.NotFinite _ (λ X.
+      after (is_finite F a) Reason.NotFinite _ (λ A.
+      after (is_finite_ordinal F _) Reason.Overflow _ (remains F (format_of width).sound x a X A))))
 
-  pub gives_sum : {s : Sum} → s ≡ add_of width x a → GivesSum width x a s
+  pub gives_sum : {s : Result Sum Refusal} → s ≡ add_of width x a → GivesSum width x a s
   gives_sum e = rw e (record { is = refl; told = add_told width x a; remainder = leaves })

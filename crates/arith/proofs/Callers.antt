@@ -1,14 +1,15 @@
 -- What a caller of the narrowing goes by: what an answer with ends says of the three intervals, and the answer for intervals that are not refused. Rests on `ladder`'s laws of the narrowing.
-use Rattle.std.proofs.Common.{◌≡◌, ℕ, Bool, true, false, sym, refl, arith}
+use Rattle.std.proofs.Common.{◌≡◌, ℕ, Bool, true, false, Result, Ok, sym, refl, ap, arith}
 use Rattle.ladder.specs.Solution as L
 use Rattle.ladder.specs.Narrowing.{Narrowing, none, ends}
 use Rattle.ladder.specs.Solution.{Bounded}
 use Rattle.ladder.proofs.Ordinals.{pattern_finite}
 use Rattle.ladder.proofs.Hull.{narrowing_hull, hull_bounded}
 use Rattle.arith.specs.declared.format.Format.{Format}
+use Rattle.arith.specs.declared.refusal.Reason.{Reason}
+use Rattle.arith.specs.declared.refusal.Refusal.{Refusal}
 use Rattle.arith.specs.declared.interval.Interval.{Interval}
 use Rattle.arith.specs.declared.narrow.Narrowed.{Narrowed}
-use Rattle.arith.specs.declared.narrow.Narrowed.TheVariants.{Ends, Refused}
 use Rattle.arith.specs.Refusals.{or_refuse}
 use Rattle.arith.specs.Formats.{is_known, format_of}
 use Rattle.arith.specs.Intervals.{Valid, ends_finite, is_ordered, range_of, span}
@@ -17,7 +18,7 @@ use Rattle.arith.proofs.Refusing.{passed}
 use Rattle.arith.proofs.Intervals.{range_ends}
 
 -- a test that an answer with ends has passed
-passes : (ok : Bool) (n : ℕ) (rest : Narrowed) (p q r : Interval) → or_refuse Refused ok n rest ≡ Ends p q r → (ok ≡ true) × (rest ≡ Ends p q r)
+passes : (ok : Bool) (n : Reason) (rest : Result Narrowed Refusal) (p q r : Interval) → or_refuse ok n rest ≡ Ok (record { x = p; a = q; b = r }) → (ok ≡ true) × (rest ≡ Ok (record { x = p; a = q; b = r }))
 passes true n rest p q r e = (refl, e)
 passes false n rest p q r e = let z : ◌≡◌ {A = ℕ} 0 1 = cc in absurd (omega arith)
 
@@ -38,21 +39,22 @@ module _ (width : ℕ) (x a b : Interval) where
   abbrev F : Format
   F = format_of width
 
-  from_narrowing : (p q r : Interval) → Valid width x → Valid width a → Valid width b → (n : Narrowing) → narrowing F (range_of F x) (range_of F a) (range_of F b) ≡ n → narrow_answer F n ≡ Ends p q r → Answered width x a b p q r
+  from_narrowing : (p q r : Interval) → Valid width x → Valid width a → Valid width b → (n : Narrowing) → narrowing F (range_of F x) (range_of F a) (range_of F b) ≡ n → narrow_answer F n ≡ Ok (record { x = p; a = q; b = r }) → Answered width x a b p q r
   from_narrowing p q r vx va vb none i h = let z : ◌≡◌ {A = ℕ} 0 1 = cc in absurd (omega arith)
   from_narrowing p q r vx va vb (ends X A B) i h =
-      record { valid_x = vx; valid_a = va; valid_b = vb; X = X; A = A; B = B; is = i; x_is = cc; a_is = cc; b_is = cc }
+      let n : ◌≡◌ {A = Narrowed} (record { x = p; a = q; b = r }) (record { x = written F X; a = written F A; b = written F B }) = cc in
+      record { valid_x = vx; valid_a = va; valid_b = vb; X = X; A = A; B = B; is = i; x_is = ap (λ (n : Narrowed). n.x) n; a_is = ap (λ (n : Narrowed). n.a) n; b_is = ap (λ (n : Narrowed). n.b) n }
 
-  pub narrow_answered : (p q r : Interval) → narrow_of width x a b ≡ Ends p q r → Answered width x a b p q r
+  pub narrow_answered : (p q r : Interval) → narrow_of width x a b ≡ Ok (record { x = p; a = q; b = r }) → Answered width x a b p q r
   unfolding narrow_of narrow_in narrow_finite
   narrow_answered p q r e =
-      let s1 = passes _ 1 _ p q r e in
-      let s2 = passes _ 2 _ p q r s1.1 in
-      let s3 = passes _ 2 _ p q r s2.1 in
-      let s4 = passes _ 2 _ p q r s3.1 in
-      let s5 = passes _ 3 _ p q r s4.1 in
-      let s6 = passes _ 3 _ p q r s5.1 in
-      let s7 = passes _ 3 _ p q r s6.1 in
+      let s1 = passes _ Reason.Width _ p q r e in
+      let s2 = passes _ Reason.NotFinite _ p q r s1.1 in
+      let s3 = passes _ Reason.NotFinite _ p q r s2.1 in
+      let s4 = passes _ Reason.NotFinite _ p q r s3.1 in
+      let s5 = passes _ Reason.Reversed _ p q r s4.1 in
+      let s6 = passes _ Reason.Reversed _ p q r s5.1 in
+      let s7 = passes _ Reason.Reversed _ p q r s6.1 in
       from_narrowing p q r
       (record { known = s1.0; finite = s2.0; ordered = s5.0 })
       (record { known = s1.0; finite = s3.0; ordered = s6.0 })
@@ -63,7 +65,7 @@ module _ (width : ℕ) (x a b : Interval) where
   pub narrow_valid : is_known width ≡ true → ends_finite F x ≡ true → ends_finite F a ≡ true → ends_finite F b ≡ true → is_ordered (range_of F x) ≡ true → is_ordered (range_of F a) ≡ true → is_ordered (range_of F b) ≡ true
       → narrow_of width x a b ≡ narrow_answer F (narrowing F (range_of F x) (range_of F a) (range_of F b))
   unfolding narrow_of narrow_in narrow_finite
-  narrow_valid k fx fa fb ox oa ob = sym (passed Refused 1 _ _ k (passed Refused 2 _ _ fx (passed Refused 2 _ _ fa (passed Refused 2 _ _ fb (passed Refused 3 _ _ ox (passed Refused 3 _ _ oa (passed Refused 3 _ _ ob refl)))))))
+  narrow_valid k fx fa fb ox oa ob = sym (passed Reason.Width _ _ k (passed Reason.NotFinite _ _ fx (passed Reason.NotFinite _ _ fa (passed Reason.NotFinite _ _ fb (passed Reason.Reversed _ _ ox (passed Reason.Reversed _ _ oa (passed Reason.Reversed _ _ ob refl)))))))
 
 -- written ends are finite
 pub written_finite : (F : Format) (I : L.Interval) → Bounded F.fraction F.exponent I → ends_finite F (written F I) ≡ true

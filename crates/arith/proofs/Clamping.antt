@@ -1,5 +1,5 @@
 -- The clamp on machine words: the exponent field of the sum's ends, the digits in which they differ, and the raised end. Rests on `ladder`'s Granularity.
-use Rattle.std.proofs.Common.{◌≡◌, ℕ, zero, suc, ◌+◌, ◌-◌, ◌*◌, ◌/◌, ◌^◌, ◌<◌, ◌≤◌, max, sym, refl, ap, ◌∙◌, subst, inl, inr, le_of_lt, mul-le-mul_right, div-lt_iff_lt-mul, le-div_iff_mul-le, arith, pow_pos, pow_mono}
+use Rattle.std.proofs.Common.{◌≡◌, ℕ, zero, suc, ◌+◌, ◌-◌, ◌*◌, ◌/◌, ◌^◌, ◌<◌, ◌≤◌, sym, refl, ap, ◌∙◌, subst, inl, inr, le_of_lt, div-lt_iff_lt-mul, le-div_iff_mul-le, arith, pow_pos, pow_mono}
 use Prim.Native.Nat.{◌∣◌}
 use native.Mathlib.Nat.{div-eq_of_lt}
 use lib.Pow.{shr_mono}
@@ -7,9 +7,7 @@ use lib.Bits.{bit_xor, xor_add_and, and_le_l, and_le_r, xor_shr, xor_lt, xor_sel
 use lib.Ieee.{size}
 use lib.Ieee.Digits.{size-lt, size-le}
 use Rattle.ladder.specs.Magnitude.{magnitude}
-use Rattle.ladder.specs.Ordinal as L
-use Rattle.ladder.specs.Solution.{Interval}
-use Rattle.ladder.specs.Search.{NoMultiple, SomeMultiple, raised}
+use Rattle.ladder.specs.Search.{NoMultiple, SomeMultiple}
 use Rattle.ladder.proofs.Granularity.{digits_free, binade_free, binade_some, digits_some}
 use Rattle.ladder.proofs.Cases.{le_or_lt}
 
@@ -101,15 +99,3 @@ module _ (f q lo hi : ℕ) (is : q ≡ hi / 2 ^ f) where
       let w = field f q hi is in
       let t = digits_some f j (q - 1) (lo - base) (hi - base) (inr (omega arith)) (omega arith) p l in
       record { m = t.m; low = omega (arith, t.low); high = omega (arith, t.high); divides = t.divides }
-
--- ---- the raised end
-pub raised_at : (f e k low : ℕ) (I : Interval) → low ≡ max I.low (L.sign f e + 1 - (k + 1) * 2 ^ f) → record { low = low; high = I.high } ≡ raised f e k I
-raised_at f e k low I z = ap (λ (x : ℕ). let J : Interval = record { low = x; high = I.high } in J) z
-
-module _ (f e q k : ℕ) (is : q ≡ L.sign f e / 2 ^ f) where
-  -- too far below zero to matter
-  pub raised_none : (I : Interval) → q ≤ k → I ≡ raised f e k I
-  raised_none I l = raised_at f e k I.low I (omega (arith, (field f q (L.sign f e) is).1, mul-le-mul_right (2 ^ f) l))
-
-  pub raised_fits : k < q → (k + 1) * 2 ^ f ≤ L.sign f e
-  raised_fits l = let t : (k + 1) * 2 ^ f ≤ q * 2 ^ f = mul-le-mul_right (2 ^ f) (omega arith) in omega (arith, (field f q (L.sign f e) is).0)

@@ -127,11 +127,11 @@ exact_first F x a o ok O h =
     let f = F.fraction in
     let s = is_set x.sign in
     let t = is_set a.sign in
-    let p = signed_units F ok.sound x (omega (arith, ok.x_finite.m)) in
-    let q = signed_units F ok.sound a (omega (arith, ok.a_finite.m)) in
+    let p = signed_units F F.sound x (omega (arith, ok.x_finite.m)) in
+    let q = signed_units F F.sound a (omega (arith, ok.a_finite.m)) in
     let le = magnitude_le f a.m x.m h in
     let size = size_exact f x.m a.m o h ∙ ap (λ (b : Bool). cond b (magnitude f x.m - magnitude f a.m) (magnitude f x.m + magnitude f a.m)) O in
-    let high : x.m ≤ 2 ^ 63 = omega (arith, ok.x_finite.m, ok.sound.word, infinity_lt F ok.sound) in
+    let high : x.m ≤ 2 ^ 63 = omega (arith, ok.x_finite.m, F.sound.word, infinity_lt F F.sound) in
     record {
       sign = ok.x_finite.sign;
       amounts = record {
@@ -158,12 +158,12 @@ module _ (F : Format) (x a : Signed) (t : Exact) (ok : Summands FiniteSigned F x
   o = not (eqb x.sign a.sign)
 
   differ : o ≡ apart (is_set x.sign) (is_set a.sign)
-  differ = apart_is F ok.sound x.sign a.sign ok.x_finite.sign ok.a_finite.sign
+  differ = apart_is F F.sound x.sign a.sign ok.x_finite.sign ok.a_finite.sign
 
   pub exact_x : a.m ≤ x.m → t ≡ exact_of F.fraction o x.m a.m → Exactly F (ordinal_at F x) (ordinal_at F a) (record { sign = x.sign; size = t })
   exact_x h T = rw T (exact_first F x a o ok differ h)
 
   pub exact_a : x.m < a.m → t ≡ exact_of F.fraction o a.m x.m → Exactly F (ordinal_at F x) (ordinal_at F a) (record { sign = a.sign; size = t })
   exact_a h T =
-      let turned : Summands FiniteSigned F a x = record { sound = ok.sound; x_finite = ok.a_finite; a_finite = ok.x_finite } in
+      let turned : Summands FiniteSigned F a x = record { x_finite = ok.a_finite; a_finite = ok.x_finite } in
       rw T (swapped F (ordinal_at F x) (ordinal_at F a) _ (exact_first F a x o turned (differ ∙ apart_comm (is_set x.sign) (is_set a.sign)) (omega arith)))

@@ -1,10 +1,12 @@
 -- Formats as values: the format of a width is sound, and patterns and ordinals by a sound format's own numbers. Rests on `ladder`'s laws of ordinals.
-use Rattle.std.proofs.Common.{◌≡◌, ℕ, ◌+◌, ◌-◌, ◌*◌, ◌^◌, ◌<◌, ◌≤◌, Bool, true, false, cond, ◌&&◌, eqb, ltb, sym, refl, ap, ◌∙◌, ap₂, inl, inr, true≢false, arith, lit≤, ltb-true, le-ltb, lt-ltb}
+use Rattle.std.proofs.Common.{◌≡◌, ℕ, ◌+◌, ◌-◌, ◌*◌, ◌^◌, ◌<◌, ◌≤◌, Bool, true, false, cond, ◌&&◌, eqb, ltb, sym, refl, ap, ◌∙◌, ap₂, inl, inr, true≢false, arith, ltb-true, le-ltb, lt-ltb}
 use Rattle.ladder.specs.Ordinal as L
 use Rattle.ladder.proofs.Cases.{le_or_lt}
 use Rattle.ladder.proofs.Ordinals.{sign_is, infinity_lt_sign}
+use Rattle.std.proofs.Props.{props}
 use Rattle.arith.specs.declared.format.Format.{Format}
-use Rattle.arith.specs.Formats.{binary, format_of, Sound, is_finite, ordinal, pattern, negated}
+use Rattle.arith.specs.Binaries.{IsBinary}
+use Rattle.arith.specs.Formats.{format_of, Sound, is_finite, ordinal, pattern, negated}
 
 -- a test of two parts
 pub both : (p q : Bool) → (p && q) ≡ true → (p ≡ true) × (q ≡ true)
@@ -13,12 +15,11 @@ both true false e = absurd (true≢false (sym e))
 both false q e = absurd (true≢false (sym e))
 
 pub sound : (width : ℕ) → Sound (format_of width)
-unfolding L.sign L.infinity
-sound width = go (eqb width 32)
-  where
-    go : (b : Bool) → Sound (cond b (binary 23 8) (binary 52 11))
-    go true = record { some = lit≤ tt; few = lit≤ tt; sign = refl; infinity = refl; word = lit≤ tt }
-    go false = record { some = lit≤ tt; few = lit≤ tt; sign = refl; infinity = refl; word = lit≤ tt }
+sound width = (format_of width).sound
+
+-- a format's numbers are shown to be one in one way alone
+pub only_proof : {f e s i : ℕ} (p q : IsBinary f e s i) → p ≡ q
+only_proof = hlevel props
 
 module _ (F : Format) (ok : Sound F) where
   pub infinity_lt : F.infinity < F.sign

@@ -2,7 +2,6 @@ pub mod Refusing
 pub mod Shifting
 pub mod Formats
 pub mod Intervals
-pub mod Images
 pub mod Signs
 pub mod Decoding
 pub mod Roundings
@@ -14,11 +13,11 @@ pub mod Remainders
 pub mod Sums
 pub mod Clamping
 pub mod Bounds
+pub mod Swapping
 pub mod Narrowings
 pub mod Callers
 pub mod Valid
 pub mod Replies
 pub mod Additions
-pub mod Widths
 pub mod Repeating
 pub mod Absorbers

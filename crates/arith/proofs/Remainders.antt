@@ -36,11 +36,11 @@ wrapped : (A B l k : ℕ) → (l + B % 2 ^ 64) % 2 ^ 64 ≡ A % 2 ^ 64 → dista
 wrapped A B l k e d h w z c = omega arith
 
 -- the low word of a sum, and of a difference, by that of its first part
-pub low_more : (A B a l : ℕ) → a ≡ A % 2 ^ 64 → l ≡ (a + B) % 2 ^ 64 → l ≡ (A + B) % 2 ^ 64
-low_more A B a l e h = omega arith
+pub low_more : (A B a : ℕ) → a ≡ A % 2 ^ 64 → (a + B) % 2 ^ 64 ≡ (A + B) % 2 ^ 64
+low_more A B a e = omega arith
 
-pub low_less : (A B l : ℕ) → (l + B) % 2 ^ 64 ≡ A % 2 ^ 64 → B ≤ A → l < 2 ^ 64 → l ≡ (A - B) % 2 ^ 64
-low_less A B l e h w = omega arith
+pub low_less : (A B a : ℕ) → a ≡ A % 2 ^ 64 → B ≤ A → B < 2 ^ 64 → (a + (2 ^ 64 - B)) % 2 ^ 64 ≡ (A - B) % 2 ^ 64
+low_less A B a e h w = omega arith
 
 -- ---- distances of multiples
 part_distance : (o : Bool) (a b c : ℕ) → b ≤ a → distance (cond o (a - b) (a + b) * c) (a * c) ≤ b * c

@@ -1,5 +1,5 @@
 -- The rounding of a number of units: an exact one, one by its kept digits and the rest, and one of whose low digits only a sticky bit is kept. Rests on `ladder`'s Digits, Magnitude, Rounding, Nearest, Multiples and Sticky.
-use Rattle.std.proofs.Common.{◌≡◌, ℕ, suc, ◌+◌, ◌-◌, ◌*◌, ◌/◌, ◌%◌, ◌^◌, ◌<◌, ◌≤◌, Bool, true, false, eqb, ◌⊎◌, sym, refl, ap, ◌∙◌, subst, ap₂, inl, inr, true≢false, le_trans, le_of_eq, mul-le-mul_right, mod-lt, div-lt_iff_lt-mul, mul-le-mul_left, mul-lt-mul_of_pos_right, mul-pos, div-add-mod', arith, pow_pos, pow_mono, pow-add, eq-eqb, ne_eqb, eqb-true}
+use Rattle.std.proofs.Common.{◌≡◌, ℕ, suc, ◌+◌, ◌-◌, ◌*◌, ◌/◌, ◌%◌, ◌^◌, ◌<◌, ◌≤◌, Bool, true, false, eqb, sym, refl, ap, ◌∙◌, subst, ap₂, inl, inr, true≢false, le_trans, le_of_eq, mul-le-mul_right, mod-lt, div-lt_iff_lt-mul, mul-le-mul_left, mul-lt-mul_of_pos_right, mul-pos, div-add-mod', arith, pow_pos, pow_mono, pow-add, eq-eqb, ne_eqb, eqb-true}
 use Prim.Native.Nat.{Ordering}
 use native.Mathlib.Nat.{eq_of_mul-eq-mul_right}
 use native.Mathlib.Nat.{mod-eq-zero_of_dvd, pow-succ'}
@@ -14,7 +14,7 @@ use Rattle.ladder.specs.Nearest.{NearestSize}
 use Rattle.ladder.proofs.Cases.{le_or_lt, trichotomy, equal_or_not, Compares, compare_is}
 use Rattle.ladder.proofs.Digits.{shifted_lt, shifted_ge, size_scale}
 use Rattle.ladder.proofs.Magnitude.{magnitude_is, magnitude_small, magnitude_shift}
-use Rattle.ladder.proofs.Rounding.{round_mono, round_magnitude, even_pow}
+use Rattle.ladder.proofs.Rounding.{round_mono, round_magnitude}
 use Rattle.ladder.proofs.Multiples.{magnitude_dvd, times_dvd}
 use Rattle.ladder.proofs.Sticky.{round_sticky, round_scale}
 use Rattle.ladder.proofs.Nearest.{round_nearest_size}
@@ -94,19 +94,6 @@ quotient_few j k n h = (div-lt_iff_lt-mul (pow_pos k)).1 (omega (arith, pow-add 
 closest_at : (n d : ℕ) (o : Ordering) → Compares o (n % d * 2) d → closest n d ≡ nearest (n / d) o
 closest_at n d o h = ap (nearest (n / d)) (compare_is (n % d * 2) d o h)
 
--- one up where the rest is over half of d, or half of it beside an odd quotient q
-abbrev pub Up : ℕ → ℕ → ℕ → ℕ → Type 0
-Up q rest half up = ((half < rest + q % 2) × (up ≡ 1)) ⊎ ((rest + q % 2 ≤ half) × (up ≡ 0))
-
-closest_up : (n d half up : ℕ) → d ≡ 2 * half → Up (n / d) (n % d) half up → closest n d ≡ n / d + up
-closest_up n d half up D u = elim (trichotomy (n % d) half) [
-  | inl l ↦ closest_at n d Ordering.lt (omega arith) ∙ elim u [ inl h ↦ omega arith | inr h ↦ omega arith ]
-  | inr o ↦ elim o [
-    | inl e ↦ closest_at n d Ordering.eq (omega arith) ∙ elim u [ inl h ↦ omega arith | inr h ↦ omega arith ]
-    | inr g ↦ closest_at n d Ordering.gt (omega arith) ∙ elim u [ inl h ↦ omega arith | inr h ↦ omega arith ]
-  ]
-]
-
 -- at most one up
 closest_near : (n d : ℕ) → (n / d ≤ closest n d) × (closest n d ≤ n / d + 1)
 closest_near n d = elim (trichotomy (n % d * 2) d) [
@@ -118,22 +105,10 @@ closest_near n d = elim (trichotomy (n % d * 2) d) [
 ]
 
 -- ---- what `round_leading` makes of n: q is kept, and rest goes
-pub rest_fits : (f n rest : ℕ) → rest ≡ n % 2 ^ (63 - f) → rest < 2 ^ 63
-rest_fits f n rest R = omega (arith, mod-lt n (pow_pos (63 - f)), pow_mono {i = 63 - f} {j = 63} (omega arith))
-
 pub significand_fits : (f n q : ℕ) → Fraction f → n < 2 ^ 64 → q ≡ n / 2 ^ (63 - f) → q < 2 ^ 53
 significand_fits f n q ok word Q =
     let w : f + 1 + (63 - f) ≡ 64 = omega (arith, ok.1) in
     omega (arith, quotient_few (f + 1) (63 - f) n (omega (arith, ap (λ (x : ℕ). 2 ^ x) w)), pow_mono {i = f + 1} {j = 53} (omega (arith, ok.1)))
-
-pub leading_is : (f n e q rest half u up : ℕ) → Fraction f → q ≡ n / 2 ^ (63 - f) → rest ≡ n % 2 ^ (63 - f) → half ≡ 1 * 2 ^ (63 - f - 1) → u ≡ e * 2 ^ f → Up q rest half up
-    → record { result = record { m = u + (q + up); exact = eqb rest 0 }; kept = record { significand = q + up; shift = e } } ≡ leading_of f n e
-leading_is f n e q rest half u up ok Q R H U p =
-    let k : ℕ = 63 - f in
-    let D : 2 ^ k ≡ 2 * half = even_pow k (omega (arith, ok.1)) ∙ omega arith in
-    let c : q + up ≡ closest n (2 ^ k) = sym (closest_up n (2 ^ k) half up D (rw (Q, R) at p) ∙ omega arith) in
-    ap (λ (x : ℕ). record { result = record { m = u + x; exact = eqb rest 0 }; kept = record { significand = x; shift = e } }) c
-    ∙ ap₂ (λ (x y : ℕ). record { result = record { m = x + closest n (2 ^ k); exact = eqb y 0 }; kept = record { significand = closest n (2 ^ k); shift = e } }) U R
 
 -- ---- n has f + 1 + k digits, and stands for n * 2 ^ s
 module _ (f n s k : ℕ) (long : size n ≡ f + 1 + k) where

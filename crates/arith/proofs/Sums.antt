@@ -1,6 +1,6 @@
 -- Step 3 of the forward sum: the rounded exact sum, tested for its range, is 01's sum, as an ordinal and as an answer, and what rounding left over is 02's remainder.
 -- Rests on `ladder`'s laws of rounding and of the remainder.
-use Rattle.std.proofs.Common.{◌≡◌, ℕ, ◌+◌, ◌-◌, ◌<◌, ◌≤◌, min, Bool, true, false, cond, ◌&&◌, eqb, ltb, sym, refl, ap, ◌∙◌, subst, ap₂, inl, inr, arith, le-ltb, lt-ltb, le-leb}
+use Rattle.std.proofs.Common.{◌≡◌, ℕ, ◌+◌, ◌-◌, ◌<◌, ◌≤◌, min, Bool, true, false, cond, ◌&&◌, eqb, ltb, sym, refl, ap, ◌∙◌, subst, ap₂, inl, inr, arith, le-ltb, lt-ltb, le-leb, Result, Ok, Err}
 use borrow.Author.Tests.{lt-leb}
 use Rattle.ladder.specs.Magnitude.{magnitude}
 use Rattle.ladder.specs.Rounding.{round}
@@ -14,13 +14,16 @@ use Rattle.ladder.proofs.Sum.{rounded_up, rounded_down}
 use Rattle.ladder.proofs.Remainder.{sum_remainder}
 use Rattle.arith.specs.declared.format.Format.{Format}
 use Rattle.arith.specs.declared.sum.Signed.{Signed}
+use Rattle.arith.specs.declared.refusal.Reason.{Reason}
+use Rattle.arith.specs.declared.refusal.Refusal.{Refusal}
 use Rattle.arith.specs.declared.sum.ExactSum.{ExactSum}
 use Rattle.arith.specs.declared.sum.Rounded.{Rounded}
 use Rattle.arith.specs.declared.sum.Rounding.{Rounding}
 use Rattle.arith.specs.declared.sum.Addition.{Addition}
 use Rattle.arith.specs.declared.sum.Tested.{Tested}
 use Rattle.arith.specs.declared.sum.Tested.TheVariants.{Finite, Overflow}
-use Rattle.arith.specs.declared.sum.Sum.TheVariants.{Is, Refused}
+use Rattle.arith.specs.declared.sum.Mark.{Mark}
+use Rattle.arith.specs.declared.sum.Sum.{Sum}
 use Rattle.arith.specs.Refusals.{refusal}
 use Rattle.arith.specs.Formats.{Sound, pattern, sum, remainder}
 use Rattle.arith.specs.Exacts.{size_of}
@@ -95,7 +98,7 @@ module _ (F : Format) (sign : ℕ) (r : Rounded) where
     refused = λ z. (λ e y l. magnitude_lt F.fraction y r.m (omega arith), λ p. refl);
   }
 
-  pub test_in : (k : ℕ) → k ≡ mark_for F.fraction r.m r.exact → r.m < F.infinity → RangeTested F sign r (Finite (sized r.m) k)
+  pub test_in : (k : Mark) → k ≡ mark_for F.fraction r.m r.exact → r.m < F.infinity → RangeTested F sign r (Finite (sized r.m) k)
   test_in k K h = record {
     is = ap (Finite (sized r.m)) K ∙ simp (lt-leb F.infinity r.m h);
     refused = λ z. (λ e. let z : ◌≡◌ {A = ℕ} 0 1 = cc in absurd (omega arith), λ p. absurd (omega (arith, p r.m h)));
@@ -147,12 +150,12 @@ module _ (F : Format) (x a : ℕ) (t : ExactSum) (g : Rounding) (ok : Sound F) (
       ap₂ (mark_for fraction) (sym (signed_distance b r.m F.sign l)) X
 
   rounded_sum : RoundedSum F t g
-  rounded_sum = record { sound = ok; sign = T.sign; roundable = record { fraction = (ok.some, ok.few); shaped = T.amounts.shaped; low = T.amounts.low }; rounds = R }
+  rounded_sum = record { sign = T.sign; roundable = record { fraction = (ok.some, ok.few); shaped = T.amounts.shaped; low = T.amounts.low }; rounds = R }
 
   -- ---- an overflow
-  over_answer : (o : ℕ) → o ≡ y → is_finite_ordinal F o ≡ false → Refused (refusal 9) ≡ sum_answer F x a
+  over_answer : (o : ℕ) → o ≡ y → is_finite_ordinal F o ≡ false → Err (refusal Reason.Overflow) ≡ sum_answer F x a
   unfolding in_range
-  over_answer o O N = sym (ap (λ (z : Bool). cond z (sum_is F x a y) (Refused (refusal 9))) (ap (is_finite_ordinal F) (sym O) ∙ N))
+  over_answer o O N = sym (ap (λ (z : Bool). cond z (Ok (sum_is F x a y)) (Err (refusal Reason.Overflow))) (ap (is_finite_ordinal F) (sym O) ∙ N))
 
   -- ---- in range
   module _ (h : r.m < i) where
@@ -185,12 +188,15 @@ module _ (F : Format) (x a : ℕ) (t : ExactSum) (g : Rounding) (ok : Sound F) (
               (rw (other, other_set F ok t.sign T.sign) (left_past b n v w _ _ _ _ T.amounts.up T.amounts.down N whole))
         ]
 
+    abbrev sum_with : ℕ → Mark → ℕ → Result Sum Refusal
+    sum_with p k q = Ok (record { pattern = pattern F p; mark = k; remainder = pattern F q })
+
     in_answer : (z : Signed) → ordinal_at F z ≡ remainder F x a y → answer_of F (Finite (at r.m) (mark_for fraction r.m r.exact)) z ≡ sum_answer F x a
     unfolding in_range
     in_answer z Z =
-        ap₂ (λ (k q : ℕ). Is (pattern F (ordinal_at F (at r.m))) k (pattern F q)) (mark_is h) Z
-        ∙ ap (λ (p : ℕ). Is (pattern F p) (mark_of F x a p) (pattern F (remainder F x a y))) o
-        ∙ sym (ap (λ (c : Bool). cond c (sum_is F x a y) (Refused (refusal 9))) (ap (is_finite_ordinal F) (sym o) ∙ finite_yes F ok b r.m h))
+        ap₂ (sum_with (ordinal_at F (at r.m))) (mark_is h) Z
+        ∙ ap (λ (p : ℕ). sum_with p (mark_of F x a p) (remainder F x a y)) o
+        ∙ sym (ap (λ (c : Bool). cond c (Ok (sum_is F x a y)) (Err (refusal Reason.Overflow))) (ap (is_finite_ordinal F) (sym o) ∙ finite_yes F ok b r.m h))
 
   -- the sum by its steps
   abbrev made : Tested → Addition

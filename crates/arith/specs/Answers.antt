@@ -1,12 +1,12 @@
--- 01's reply as plain numbers, and what each case of an answer's enum tells of it: number, place and values. Assumes nothing.
-use Rattle.std.specs.Prelude.{ℕ, List, [], ◌∷◌, ◌++◌}
+-- 01's reply as plain numbers, and what each case of an answer tells of it: number, place and values. Assumes nothing.
+use Rattle.std.specs.Prelude.{ℕ, List, [], ◌∷◌, ◌++◌, Option, Some, None, Result, Ok, Err}
 use Rattle.arith.specs.declared.refusal.Refusal.{Refusal}
 use Rattle.arith.specs.declared.interval.Interval.{Interval}
 use Rattle.arith.specs.declared.sum.Sum.{Sum}
-use Rattle.arith.specs.declared.interval.Cut.{Cut}
-use Rattle.arith.specs.declared.interval.Image.{Image}
 use Rattle.arith.specs.declared.narrow.Narrowed.{Narrowed}
 use Rattle.arith.specs.declared.repeated.Paired.{Paired}
+use Rattle.arith.specs.Refusals as Refusals
+use Rattle.arith.specs.Sums.{mark_number}
 
 -- ---- a reply
 -- 01's number, 0 where nothing is refused; the place; the values, none with a refusal
@@ -21,35 +21,51 @@ gives values = record { number = 0; place = 0; values = values }
 
 -- a refusal
 abbrev pub refuses : {A : Type 0} → Refusal → Reply A
-refuses r = record { number = r.number; place = r.place; values = [] }
+refuses r = record { number = Refusals.number r.reason; place = r.place; values = [] }
 
 -- an interval's ends, low then high
 abbrev pub two_ends : Interval → List ℕ
 two_ends I = I.low ∷ I.high ∷ []
 
 -- ---- what each case tells
+-- the values of a result, or the refusal
+abbrev pub told : {A B : Type 0} → (A → List B) → Result A Refusal → Reply B
+told values (Ok answer) = gives (values answer)
+told values (Err r) = refuses r
+
 -- the forward sum: its pattern, mark and remainder
-abbrev pub sum_told : Sum → Reply ℕ
-sum_told (Sum.Is p mark r) = gives (p ∷ mark ∷ r ∷ [])
-sum_told (Sum.Refused r) = refuses r
+abbrev pub sum_values : Sum → List ℕ
+sum_values s = s.pattern ∷ mark_number s.mark ∷ s.remainder ∷ []
+
+-- as a reply
+abbrev pub sum_told : Result Sum Refusal → Reply ℕ
+sum_told = told sum_values
 
 -- the cut: its ends, or no value where nothing is shared
-abbrev pub cut_told : Cut → Reply ℕ
-cut_told (Cut.Shared I) = gives (two_ends I)
-cut_told Cut.Empty = gives []
-cut_told (Cut.Refused r) = refuses r
+abbrev pub shared_values : Option Interval → List ℕ
+shared_values (Some I) = two_ends I
+shared_values None = []
+
+-- as a reply
+abbrev pub cut_told : Result (Option Interval) Refusal → Reply ℕ
+cut_told = told shared_values
 
 -- the shift, the mirror and the canonical form: the ends
-abbrev pub image_told : Image → Reply ℕ
-image_told (Image.Is I) = gives (two_ends I)
-image_told (Image.Refused r) = refuses r
+abbrev pub image_told : Result Interval Refusal → Reply ℕ
+image_told = told two_ends
 
 -- the narrowing of one sum: the six ends, of x, a, b
-abbrev pub narrowed_told : Narrowed → Reply ℕ
-narrowed_told (Narrowed.Ends x a b) = gives (two_ends x ++ two_ends a ++ two_ends b)
-narrowed_told (Narrowed.Refused r) = refuses r
+abbrev pub narrowed_values : Narrowed → List ℕ
+narrowed_values n = two_ends n.x ++ two_ends n.a ++ two_ends n.b
+
+-- as a reply
+abbrev pub narrowed_told : Result Narrowed Refusal → Reply ℕ
+narrowed_told = told narrowed_values
 
 -- that of a sum with one float in two places: the four ends, of the first and the second
-abbrev pub paired_told : Paired → Reply ℕ
-paired_told (Paired.Ends p q) = gives (two_ends p ++ two_ends q)
-paired_told (Paired.Refused r) = refuses r
+abbrev pub paired_values : Paired → List ℕ
+paired_values n = two_ends n.p ++ two_ends n.q
+
+-- as a reply
+abbrev pub paired_told : Result Paired Refusal → Reply ℕ
+paired_told = told paired_values

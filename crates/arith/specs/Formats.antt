@@ -1,13 +1,26 @@
 -- 01's formats by width, and the definitions of `ladder` at a format. Assumes nothing.
-use Rattle.std.specs.Prelude.{◌≡◌, ℕ, ◌^◌, ◌≤◌, Bool, cond, ◌||◌, ◌==◌}
+use Rattle.std.specs.Prelude.{ℕ, Bool, cond, ◌||◌, ◌==◌, Result, Ok, Err}
 use Rattle.ladder.specs.Ordinal as L
 use Rattle.ladder.specs.Sum as S
 use Rattle.ladder.specs.Remainder as R
+use Rattle.std.proofs.Common.{refl, lit≤}
 use Rattle.arith.specs.declared.format.Format.{Format}
+use Rattle.arith.specs.declared.refusal.Reason.{Reason}
+use Rattle.arith.specs.Binaries.{IsBinary}
 
 -- the format with f fraction bits and e exponent bits
-abbrev pub binary : ℕ → ℕ → Format
-binary f e = record { fraction = f; exponent = e; sign = L.sign f e; infinity = L.infinity f e }
+abbrev pub binary : (f e : ℕ) → IsBinary f e (L.sign f e) (L.infinity f e) → Format
+binary f e ok = record { fraction = f; exponent = e; sign = L.sign f e; infinity = L.infinity f e; sound = ok }
+
+-- a word holds the patterns of width 32
+pub fits32 : IsBinary 23 8 (L.sign 23 8) (L.infinity 23 8)
+unfolding L.sign L.infinity
+fits32 = record { some = lit≤ tt; few = lit≤ tt; sign = refl; infinity = refl; word = lit≤ tt }
+
+-- and of width 64
+pub fits64 : IsBinary 52 11 (L.sign 52 11) (L.infinity 52 11)
+unfolding L.sign L.infinity
+fits64 = record { some = lit≤ tt; few = lit≤ tt; sign = refl; infinity = refl; word = lit≤ tt }
 
 -- refusal 1 is for every other width
 abbrev pub is_known : ℕ → Bool
@@ -15,15 +28,15 @@ is_known width = width == 32 || width == 64
 
 -- 01: width 32 has 8 exponent bits and 23 fraction bits, width 64 has 11 and 52. Any other width is refused before its format is used; here it gets that of 64
 abbrev pub format_of : ℕ → Format
-format_of width = cond (width == 32) (binary 23 8) (binary 52 11)
+format_of width = cond (width == 32) (binary 23 8 fits32) (binary 52 11 fits64)
 
--- what the functions inside the crate need of a format: its numbers are those of its bits, and its patterns fit a word
-pub record Sound (F : Format) : Type 0 where
-  pub some : 1 ≤ F.fraction
-  pub few : F.fraction ≤ 52
-  pub sign : F.sign ≡ L.sign F.fraction F.exponent
-  pub infinity : F.infinity ≡ L.infinity F.fraction F.exponent
-  pub word : F.sign ≤ 2 ^ 63
+-- the format of a width that is known, else the reason of refusal 1
+abbrev pub known_format : ℕ → Result Format Reason
+known_format width = cond (is_known width) (Ok (format_of width)) (Err Reason.Width)
+
+-- what every format's numbers are
+abbrev pub Sound : Format → Type 0
+Sound F = IsBinary F.fraction F.exponent F.sign F.infinity
 
 -- whether a pattern is finite in the format
 abbrev pub is_finite : Format → ℕ → Bool

@@ -1,12 +1,11 @@
 -- 01's intervals of patterns, and the whole answers of their cut, shift and mirror, refusals in their order. Assumes nothing.
-use Rattle.std.specs.Prelude.{◌≡◌, ℕ, min, max, Bool, true, cond, ◌&&◌, nat_le}
+use Rattle.std.specs.Prelude.{◌≡◌, ℕ, min, max, Bool, true, cond, ◌&&◌, nat_le, Option, Some, None, Result, Ok}
 use Rattle.ladder.specs.Solution as L
 use Rattle.arith.specs.declared.format.Format.{Format}
+use Rattle.arith.specs.declared.refusal.Reason.{Reason}
+use Rattle.arith.specs.declared.refusal.Refusal.{Refusal}
 use Rattle.arith.specs.declared.range.Range.{Range}
 use Rattle.arith.specs.declared.interval.Interval.{Interval}
-use Rattle.arith.specs.declared.interval.Cut.{Cut}
-use Rattle.arith.specs.declared.interval.Cut.TheVariants.{Shared, Empty}
-use Rattle.arith.specs.declared.interval.Image.{Image}
 use Rattle.arith.specs.Refusals.{or_refuse}
 use Rattle.arith.specs.Formats.{is_known, format_of, is_finite, ordinal, pattern, negated, sum, mirrored}
 use Rattle.arith.specs.Sums.{is_finite_ordinal}
@@ -46,8 +45,8 @@ abbrev pub common : Range → Range → Range
 common R S = record { low = max R.low S.low; high = min R.high S.high }
 
 -- the shared interval, or the word that nothing is shared
-unfoldable pub shared_in : Format → Range → Cut
-shared_in F R = cond (is_ordered R) (Shared (interval_of F R)) Empty
+unfoldable pub shared_in : Format → Range → Option Interval
+shared_in F R = cond (is_ordered R) (Some (interval_of F R)) None
 
 -- from low ⊕ c to high ⊕ c, on ordinals
 abbrev pub translated : Format → Range → ℕ → Range
@@ -63,56 +62,56 @@ mirrored_ends F I = record { low = negated F I.high; high = negated F I.low }
 
 -- ---- the answers in a format
 -- canonical: 2 for low, high; 3
-unfoldable pub canonical_in : Format → Interval → Image
+unfoldable pub canonical_in : Format → Interval → Result Interval Refusal
 canonical_in F I =
-    or_refuse Image.Refused (ends_finite F I) 2
-    (or_refuse Image.Refused (is_ordered (range_of F I)) 3
-    (Image.Is (interval_of F (range_of F I))))
+    or_refuse (ends_finite F I) Reason.NotFinite
+    (or_refuse (is_ordered (range_of F I)) Reason.Reversed
+    (Ok (interval_of F (range_of F I))))
 
 -- cut: 2 for the own low, high, then the second interval's; 3 for the own, then the second
-unfoldable pub cut_in : Format → Interval → Interval → Cut
+unfoldable pub cut_in : Format → Interval → Interval → Result (Option Interval) Refusal
 cut_in F I J =
-    or_refuse Cut.Refused (ends_finite F I) 2
-    (or_refuse Cut.Refused (ends_finite F J) 2
-    (or_refuse Cut.Refused (is_ordered (range_of F I)) 3
-    (or_refuse Cut.Refused (is_ordered (range_of F J)) 3
-    (shared_in F (common (range_of F I) (range_of F J))))))
+    or_refuse (ends_finite F I) Reason.NotFinite
+    (or_refuse (ends_finite F J) Reason.NotFinite
+    (or_refuse (is_ordered (range_of F I)) Reason.Reversed
+    (or_refuse (is_ordered (range_of F J)) Reason.Reversed
+    (Ok (shared_in F (common (range_of F I) (range_of F J)))))))
 
 -- an interval moved, or refusal 9 if an end has no finite sum
-unfoldable pub moved_in : Format → Range → Image
+unfoldable pub moved_in : Format → Range → Result Interval Refusal
 moved_in F R =
-    or_refuse Image.Refused (is_finite_ordinal F R.low) 9
-    (or_refuse Image.Refused (is_finite_ordinal F R.high) 9
-    (Image.Is (interval_of F R)))
+    or_refuse (is_finite_ordinal F R.low) Reason.Overflow
+    (or_refuse (is_finite_ordinal F R.high) Reason.Overflow
+    (Ok (interval_of F R)))
 
 -- shift: 2 for the own low, high, then c; 3; 9
-unfoldable pub shift_in : Format → Interval → ℕ → Image
+unfoldable pub shift_in : Format → Interval → ℕ → Result Interval Refusal
 shift_in F I c =
-    or_refuse Image.Refused (ends_finite F I) 2
-    (or_refuse Image.Refused (is_finite F c) 2
-    (or_refuse Image.Refused (is_ordered (range_of F I)) 3
+    or_refuse (ends_finite F I) Reason.NotFinite
+    (or_refuse (is_finite F c) Reason.NotFinite
+    (or_refuse (is_ordered (range_of F I)) Reason.Reversed
     (moved_in F (translated F (range_of F I) (ordinal F c)))))
 
 -- mirror: 2 for low, high; 3
-unfoldable pub mirror_in : Format → Interval → Image
+unfoldable pub mirror_in : Format → Interval → Result Interval Refusal
 mirror_in F I =
-    or_refuse Image.Refused (ends_finite F I) 2
-    (or_refuse Image.Refused (is_ordered (range_of F I)) 3
-    (Image.Is (interval_of F (reflected F (range_of F I)))))
+    or_refuse (ends_finite F I) Reason.NotFinite
+    (or_refuse (is_ordered (range_of F I)) Reason.Reversed
+    (Ok (interval_of F (reflected F (range_of F I)))))
 
 -- ---- the whole answers of the methods
 -- canonical: 1; 2 for low, high; 3
-unfoldable pub canonical_of : ℕ → Interval → Image
-canonical_of width I = or_refuse Image.Refused (is_known width) 1 (canonical_in (format_of width) I)
+unfoldable pub canonical_of : ℕ → Interval → Result Interval Refusal
+canonical_of width I = or_refuse (is_known width) Reason.Width (canonical_in (format_of width) I)
 
 -- cut: 1; 2 for the own low, high, then the second interval's; 3 for the own, then the second
-unfoldable pub cut_of : ℕ → Interval → Interval → Cut
-cut_of width I J = or_refuse Cut.Refused (is_known width) 1 (cut_in (format_of width) I J)
+unfoldable pub cut_of : ℕ → Interval → Interval → Result (Option Interval) Refusal
+cut_of width I J = or_refuse (is_known width) Reason.Width (cut_in (format_of width) I J)
 
 -- shift: 1; 2 for the own low, high, then c; 3; 9
-unfoldable pub shift_of : ℕ → Interval → ℕ → Image
-shift_of width I c = or_refuse Image.Refused (is_known width) 1 (shift_in (format_of width) I c)
+unfoldable pub shift_of : ℕ → Interval → ℕ → Result Interval Refusal
+shift_of width I c = or_refuse (is_known width) Reason.Width (shift_in (format_of width) I c)
 
 -- mirror: 1; 2 for low, high; 3
-unfoldable pub mirror_of : ℕ → Interval → Image
-mirror_of width I = or_refuse Image.Refused (is_known width) 1 (mirror_in (format_of width) I)
+unfoldable pub mirror_of : ℕ → Interval → Result Interval Refusal
+mirror_of width I = or_refuse (is_known width) Reason.Width (mirror_in (format_of width) I)

@@ -1,4 +1,5 @@
 pub mod Refusals
+pub mod Binaries
 pub mod Formats
 pub mod Exacts
 pub mod Sums

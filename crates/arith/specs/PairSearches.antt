@@ -1,5 +1,5 @@
 -- What the functions that narrow a sum with one float in two places take and answer, by `ladder`'s definitions at a format. For contracts inside the crate; no public one cites it. Assumes nothing.
-use Rattle.std.specs.Prelude.{◌≡◌, ℕ, ◌+◌, ◌-◌, ◌<◌, ◌≤◌, min, max, Bool, false}
+use Rattle.std.specs.Prelude.{◌≡◌, ℕ, ◌+◌, ◌-◌, ◌<◌, ◌≤◌, min, max, Bool, false, Option, None, Some}
 use Rattle.ladder.specs.Halves as H
 use Rattle.ladder.specs.Absorption as K
 use Rattle.ladder.specs.Pairing as P
@@ -7,25 +7,25 @@ use Rattle.ladder.specs.Pairing.{Pairing, none, ends}
 use Rattle.arith.specs.declared.format.Format.{Format}
 use Rattle.arith.specs.declared.range.Range.{Range}
 use Rattle.arith.specs.declared.repeated.Couple.{Couple}
-use Rattle.arith.specs.declared.repeated.Repeat.{Repeat}
-use Rattle.arith.specs.Formats.{Sound, Finite, sum}
+use Rattle.arith.specs.Formats.{Finite, sum}
 use Rattle.arith.specs.Intervals.{Bounded, span}
-use Rattle.arith.specs.Repeats.{Relation, doubling, absorbing}
+use Rattle.arith.specs.Repeats.{Relation}
 
 -- ---- what is narrowed
--- the relation that a word for it names
-abbrev pub relation_of : Repeat → Relation
-relation_of Repeat.Doubles = doubling
-relation_of Repeat.Absorbs = absorbing
+-- whether two values make such a sum, by the numbers of fraction and exponent bits
+abbrev pub PairTest : Type 0
+PairTest = ℕ → ℕ → ℕ → ℕ → Bool
+
+-- what narrows two ranges to the values that pass a test
+abbrev pub relation_of : PairTest → Relation
+relation_of test F X A = P.pairing (test F.fraction F.exponent) (span X) (span A)
 
 -- a finite ordinal of a sound format
 pub record FiniteAt (F : Format) (x : ℕ) : Type 0 where
-  pub sound : Sound F
   pub finite : Finite F x
 
 -- a finite range of a sound format, with something inside
 pub record Filled (F : Format) (R : Range) : Type 0 where
-  pub sound : Sound F
   pub ends : Bounded F R
   pub order : R.low ≤ R.high
 
@@ -35,14 +35,19 @@ pub record BothFilled (F : Format) (P Q : Range) : Type 0 where
   pub second : Filled F Q
 
 -- the narrowing of ranges, as ladder's
-abbrev pub coupled : Couple → Pairing
-coupled Couple.None = none
-coupled (Couple.Ends P Q) = ends (span P) (span Q)
+abbrev pub coupled : Option Couple → Pairing
+coupled None = none
+coupled (Some c) = ends (span c.p) (span c.q)
+
+-- a step may be called at any two such ranges, and narrows them to the values that pass the test
+pub record Couples (pre : Format → Range → Range → Type 0) (post : Format → Range → Range → Option Couple → Type 0) (test : PairTest) : Type 0 where
+  pub allowed : (F : Format) (P Q : Range) → BothFilled F P Q → pre F P Q
+  pub gives : (F : Format) (P Q : Range) (c : Option Couple) → BothFilled F P Q → post F P Q c → coupled c ≡ relation_of test F P Q
 
 -- the ends of what was found are finite
-abbrev pub FiniteEnds : Format → Couple → Type 0
-FiniteEnds F Couple.None = Unit
-FiniteEnds F (Couple.Ends P Q) = Bounded F P × Bounded F Q
+abbrev pub FiniteEnds : Format → Option Couple → Type 0
+FiniteEnds F None = Unit
+FiniteEnds F (Some c) = Bounded F c.p × Bounded F c.q
 
 -- ---- x ⊕ x = b
 -- the values whose double is at least b are those from x on
@@ -76,13 +81,11 @@ Absorber F c X = K.Absorber F.fraction F.exponent c (span X)
 
 -- a finite x, and a c from zero up that it may absorb
 pub record FromZero (F : Format) (x c : ℕ) : Type 0 where
-  pub sound : Sound F
   pub finite : Finite F x
   pub from : F.sign ≤ c
 
 -- the place of a finite float that is not zero
 pub record Nonzero (F : Format) (m : ℕ) : Type 0 where
-  pub sound : Sound F
   pub some : 0 < m
   pub finite : m < F.infinity
 

@@ -3,12 +3,13 @@ use Rattle.std.specs.Prelude.{ℕ, Bool, true, false, cond, List, [], ◌∷◌,
 use Rattle.ladder.specs.Narrowing.{Narrowing, none, ends}
 use Rattle.ladder.specs.Pairing as P
 use Rattle.ladder.specs.Pairing.{Pairing}
+use Rattle.arith.specs.declared.refusal.Reason.{Reason}
 use Rattle.arith.specs.declared.refusal.Refusal.{Refusal}
 use Rattle.arith.specs.declared.range.Range.{Range}
 use Rattle.arith.specs.declared.interval.Interval.{Interval}
 use Rattle.arith.specs.Refusals.{refusal}
 use Rattle.arith.specs.Formats.{is_known, format_of, is_finite, ordinal, pattern, sum, remainder}
-use Rattle.arith.specs.Sums.{is_finite_ordinal, mark_of}
+use Rattle.arith.specs.Sums.{is_finite_ordinal, mark_number, mark_of}
 use Rattle.arith.specs.Intervals.{ends_finite, range_of, interval_of, is_ordered, common, translated, reflected}
 use Rattle.arith.specs.Narrows.{narrowing, written}
 use Rattle.arith.specs.Repeats.{Relation}
@@ -26,15 +27,15 @@ reply_after (test ∷ tests) values = cond test.0 (reply_after tests values) (re
 
 -- 1: the width
 abbrev pub known : ℕ → Test
-known width = (is_known width, refusal 1)
+known width = (is_known width, refusal Reason.Width)
 
 -- 2: a pattern
 abbrev pub finite : ℕ → ℕ → Test
-finite width p = (is_finite (format_of width) p, refusal 2)
+finite width p = (is_finite (format_of width) p, refusal Reason.NotFinite)
 
 -- 2: low, then high
 abbrev pub both_finite : ℕ → Interval → Test
-both_finite width I = (ends_finite (format_of width) I, refusal 2)
+both_finite width I = (ends_finite (format_of width) I, refusal Reason.NotFinite)
 
 -- an interval by the ordinals of its ends
 abbrev pub ordinals : ℕ → Interval → Range
@@ -42,21 +43,21 @@ ordinals width I = range_of (format_of width) I
 
 -- 3: low not above high
 abbrev pub ordered : ℕ → Interval → Test
-ordered width I = (is_ordered (ordinals width I), refusal 3)
+ordered width I = (is_ordered (ordinals width I), refusal Reason.Reversed)
 
 -- 9: a sum, by its ordinal
 abbrev pub finite_sum : ℕ → ℕ → Test
-finite_sum width s = (is_finite_ordinal (format_of width) s, refusal 9)
+finite_sum width s = (is_finite_ordinal (format_of width) s, refusal Reason.Overflow)
 
 -- 11: a triple
 abbrev pub solved : Narrowing → Test
-solved none = (false, refusal 11)
-solved (ends X A B) = (true, refusal 11)
+solved none = (false, refusal Reason.NoTriple)
+solved (ends X A B) = (true, refusal Reason.NoTriple)
 
 -- 11: a pair
 abbrev pub paired : Pairing → Test
-paired P.none = (false, refusal 11)
-paired (P.ends X A) = (true, refusal 11)
+paired P.none = (false, refusal Reason.NoTriple)
+paired (P.ends X A) = (true, refusal Reason.NoTriple)
 
 -- ---- the forward sum
 -- x ⊕ a, by its ordinal
@@ -72,7 +73,7 @@ abbrev pub add_values : ℕ → ℕ → ℕ → List ℕ
 add_values width x a =
     let F = format_of width in
     let s = sum_of width x a in
-    pattern F s ∷ mark_of F (ordinal F x) (ordinal F a) s ∷ pattern F (remainder F (ordinal F x) (ordinal F a) s) ∷ []
+    pattern F s ∷ mark_number (mark_of F (ordinal F x) (ordinal F a) s) ∷ pattern F (remainder F (ordinal F x) (ordinal F a) s) ∷ []
 
 -- ---- intervals
 -- the ends of a range, each in its one pattern

@@ -1,11 +1,12 @@
 -- What each step of the forward sum promises, in the order of IEEE 754-2008: the exact sum (5.1); that sum rounded to nearest, ties to even, as if no exponent were too large (4.3.1);
 -- the range test (7.4). `LeftOver` is 02's remainder, from the first two; `IsSum` says that the three together, with it, make 01's sum; `between_sums` is the shift by two sums.
 -- For contracts inside the crate; the public ones cite `GivesSum` (Additions) and `shift_of` (Intervals). Assumes nothing.
-use Rattle.std.specs.Prelude.{◌≡◌, ℕ, ◌+◌, ◌-◌, ◌*◌, ◌^◌, ◌<◌, ◌≤◌, Bool, true, false, cond, ◌↔◌, nat_le, nat_lt}
+use Rattle.std.specs.Prelude.{◌≡◌, ℕ, ◌+◌, ◌-◌, ◌*◌, ◌^◌, ◌<◌, ◌≤◌, Bool, true, false, cond, ◌↔◌, nat_le, nat_lt, Result, Ok, Err}
 use Rattle.ladder.specs.Magnitude.{magnitude}
 use Rattle.ladder.specs.Sum.{gains, losses}
 use Rattle.ladder.specs.Nearest.{NearestSize}
 use Rattle.arith.specs.declared.format.Format.{Format}
+use Rattle.arith.specs.declared.interval.Interval.{Interval}
 use Rattle.arith.specs.declared.sum.Signed.{Signed}
 use Rattle.arith.specs.declared.sum.Exact.{Exact}
 use Rattle.arith.specs.declared.sum.ExactSum.{ExactSum}
@@ -14,9 +15,10 @@ use Rattle.arith.specs.declared.sum.Rounding.{Rounding}
 use Rattle.arith.specs.declared.sum.Tested.{Tested}
 use Rattle.arith.specs.declared.sum.Addition.{Addition}
 use Rattle.arith.specs.declared.sum.Sum.{Sum}
-use Rattle.arith.specs.declared.interval.Image.{Image}
+use Rattle.arith.specs.declared.refusal.Reason.{Reason}
+use Rattle.arith.specs.declared.refusal.Refusal.{Refusal}
 use Rattle.arith.specs.Refusals.{refusal}
-use Rattle.arith.specs.Formats.{Sound, is_finite, pattern, sum}
+use Rattle.arith.specs.Formats.{is_finite, pattern, sum}
 use Rattle.arith.specs.Exacts.{Amounts, Roundable, size_of, rounding_of}
 use Rattle.arith.specs.Sums.{mark_for, sum_answer}
 
@@ -41,7 +43,6 @@ pub record FiniteSigned (F : Format) (z : Signed) : Type 0 where
 
 -- both operands of a sum are finite: as patterns, as ordinals, or by sign and m
 pub record Summands {A : Type 0} (IsFinite : Format → A → Type 0) (F : Format) (x a : A) : Type 0 where
-  pub sound : Sound F
   pub x_finite : IsFinite F x
   pub a_finite : IsFinite F a
 
@@ -99,20 +100,19 @@ tested_of F sign r =
     (Tested.Finite (record { sign = sign; m = r.m }) (mark_for F.fraction r.m r.exact))
 
 -- 01's answer, with the remainder z where there is one: refusal 9 for an overflow, else pattern, mark and remainder
-abbrev pub answer_of : Format → Tested → Signed → Sum
-answer_of F (Tested.Finite s mark) z = Sum.Is (pattern F (ordinal_at F s)) mark (pattern F (ordinal_at F z))
-answer_of F (Tested.Overflow s) z = Sum.Refused (refusal 9)
+abbrev pub answer_of : Format → Tested → Signed → Result Sum Refusal
+answer_of F (Tested.Finite s mark) z = Ok (record { pattern = pattern F (ordinal_at F s); mark = mark; remainder = pattern F (ordinal_at F z) })
+answer_of F (Tested.Overflow s) z = Err (refusal Reason.Overflow)
 
 -- s is r with a sign after the range test
 pub record RangeTested (F : Format) (sign : ℕ) (r : Rounded) (s : Tested) : Type 0 where
   pub is : s ≡ tested_of F sign r
   -- refusal 9 exactly where the rounded size passes the largest finite float, whatever is left over
-  pub refused : (z : Signed) → (answer_of F s z ≡ Sum.Refused (refusal 9)) ↔ Passes F r.m
+  pub refused : (z : Signed) → (answer_of F s z ≡ Err (refusal Reason.Overflow)) ↔ Passes F r.m
 
 -- ---- what rounding left over
 -- r is the exact sum t, rounded
 pub record RoundedSum (F : Format) (t : ExactSum) (r : Rounding) : Type 0 where
-  pub sound : Sound F
   pub sign : IsSign F t.sign
   pub roundable : Roundable F.fraction t.size
   pub rounds : Rounds F.fraction t.size r
@@ -141,7 +141,7 @@ pub record AnswersWith (F : Format) (x a : ℕ) (v : Tested) (z : Signed) : Type
 -- a finite sum with what rounding left over, or the refusal, is 01's answer
 abbrev pub IsAnswer : Format → ℕ → ℕ → Addition → Tested → Type 0
 IsAnswer F x a s (Tested.Finite y mark) = (z : Signed) → LeftOver F s.exact s.rounding.result.m z → AnswersWith F x a (Tested.Finite y mark) z
-IsAnswer F x a s (Tested.Overflow y) = Sum.Refused (refusal 9) ≡ sum_answer F x a
+IsAnswer F x a s (Tested.Overflow y) = Err (refusal Reason.Overflow) ≡ sum_answer F x a
 
 -- s is the sum of the ordinals x and a, and v what its range test leaves
 pub record IsSum (F : Format) (x a : ℕ) (s : Addition) (v : Tested) : Type 0 where
@@ -152,7 +152,7 @@ pub record IsSum (F : Format) (x a : ℕ) (s : Addition) (v : Tested) : Type 0 w
 
 -- ---- the shift
 -- the interval between two sums, low's and high's; the first that is refused refuses
-abbrev pub between_sums : Sum → Sum → Image
-between_sums (Sum.Is p j r) (Sum.Is q k t) = Image.Is (record { low = p; high = q })
-between_sums (Sum.Is p j r) (Sum.Refused q) = Image.Refused q
-between_sums (Sum.Refused q) high = Image.Refused q
+abbrev pub between_sums : Result Sum Refusal → Result Sum Refusal → Result Interval Refusal
+between_sums (Ok s) (Ok t) = Ok (record { low = s.pattern; high = t.pattern })
+between_sums (Ok s) (Err q) = Err q
+between_sums (Err q) high = Err q

@@ -1,20 +1,17 @@
-// x (+) a = x: how much an x absorbs, how much the x of a range do, and the least and the greatest x of a range that absorb one a. An x absorbs up to half the step after it; of a range an end or the number next to it decides, else the place from which on the step is coarse enough.
+// A range stays beside its format, since most functions take a third number that belongs to both. x (+) a = x: how much an x absorbs, how much the x of a range do, and the least and the greatest x of a range that absorb one a. An x absorbs up to half the step after it; of a range an end or the number next to it decides, else the place from which on the step is coarse enough.
 ghost use Rattle.std.specs.Prelude.{◌≡◌, ◌+◌, ◌-◌, ◌<◌, ◌≤◌, min, max};
 ghost use Rattle.ladder.specs.Absorption.{step_place, Coarse};
-ghost use Rattle.arith.specs.Formats.{Sound};
 ghost use Rattle.arith.specs.Searches.{LeastOf, GreatestOf};
 ghost use Rattle.arith.specs.PairSearches.{FiniteAt, Filled, absorbs, AbsorbsTo, AbsorbedTo, Absorber, FromZero, Nonzero, Sought, LowMisses, HighMisses};
 
 use crate::format::Format;
-use crate::operand::Found;
-use crate::range::{Range, max, min};
+use crate::range::Range;
 use crate::remainder::encode;
 use crate::sum::decode;
 use crate::words::{digits, shift_left, shift_right};
 
 // Of an ordinal and the one after it, the place nearer to zero.
 fn step_place(format: Format, x: u64) -> u64
-    requires { Sound format }
     ensures { result ≡ step_place format.fraction format.exponent x }
 {
     if x < format.sign {
@@ -40,7 +37,7 @@ fn after_low(format: Format, x: Range) -> u64
     requires { Filled format x }
     ensures { result ≡ min (x.low + 1) x.high }
 {
-    min(x.low + 1, x.high)
+    (x.low + 1).min(x.high)
 }
 
 // The number before a range's high end, or its low end where there is none.
@@ -48,7 +45,7 @@ fn before_high(format: Format, x: Range) -> u64
     requires { Filled format x }
     ensures { result ≡ max (x.high - 1) x.low }
 {
-    max(x.high - 1, x.low)
+    (x.high - 1).max(x.low)
 }
 
 // The greatest ordinal that some x of a range from zero up absorbs: its greatest even number decides, or the one number that it has.
@@ -56,7 +53,7 @@ fn absorbed_above(format: Format, x: Range) -> u64
     requires { (Filled format x) × (format.sign ≤ x.low) }
     ensures { AbsorbedTo format x result }
 {
-    absorbs_to(format, max(x.high - x.high % 2, x.low))
+    absorbs_to(format, (x.high - x.high % 2).max(x.low))
 }
 
 // The same of a range below zero: its low end decides, or the number after it.
@@ -64,10 +61,8 @@ fn absorbed_below(format: Format, x: Range) -> u64
     requires { (Filled format x) × (x.high < format.sign) }
     ensures { AbsorbedTo format x result }
 {
-    max(
-        absorbs_to(format, x.low),
-        absorbs_to(format, after_low(format, x)),
-    )
+    let first = absorbs_to(format, x.low);
+    first.max(absorbs_to(format, after_low(format, x)))
 }
 
 // The same of any range.
@@ -90,7 +85,7 @@ pub(crate) fn absorbed_to(format: Format, x: Range) -> u64
         low: zero,
         high: x.high,
     };
-    max(absorbed_below(format, below), absorbed_above(format, above))
+    absorbed_below(format, below).max(absorbed_above(format, above))
 }
 
 // Whether x absorbs c, for c from zero up.
@@ -113,75 +108,69 @@ fn coarse(format: Format, m: u64) -> u64
 }
 
 // The least x of the range that absorbs c, where neither the low end nor the number after it does: the place above zero with a coarse enough step.
-fn least_far(format: Format, c: u64, x: Range) -> Found
+fn least_far(format: Format, c: u64, x: Range) -> Option<u64>
     requires { LowMisses format c x }
     ensures { LeastOf (Absorber format c x) result }
 {
     let t = coarse(format, c - format.sign);
     if format.infinity <= t {
-        return Found::Absent;
+        return None;
     }
     let far = format.sign + t;
-    if far < x.low {
-        return Found::Absent;
+    if !(x.low..=x.high).contains(&far) {
+        return None;
     }
-    if x.high < far {
-        return Found::Absent;
-    }
-    Found::At(far)
+    Some(far)
 }
 
 // The least x of the range that absorbs c, for c above zero.
-pub(crate) fn least_absorber(format: Format, c: u64, x: Range) -> Found
+pub(crate) fn least_absorber(format: Format, c: u64, x: Range) -> Option<u64>
     requires { Sought format c x }
     ensures { LeastOf (Absorber format c x) result }
 {
     if absorbing(format, x.low, c) {
-        return Found::At(x.low);
+        return Some(x.low);
     }
     let next = after_low(format, x);
     if absorbing(format, next, c) {
-        return Found::At(next);
+        return Some(next);
     }
     least_far(format, c, x)
 }
 
 // The greatest x of the range that absorbs c, where neither the high end nor the number before it does: the place below zero with a coarse enough step, or the one next to it.
-fn greatest_far(format: Format, c: u64, x: Range) -> Found
+fn greatest_far(format: Format, c: u64, x: Range) -> Option<u64>
     requires { HighMisses format c x }
     ensures { GreatestOf (Absorber format c x) result }
 {
     let t = coarse(format, c - format.sign);
     if format.infinity <= t {
-        return Found::Absent;
+        return None;
     }
     let far = format.sign - (t + 1);
-    if far < x.low {
-        return Found::Absent;
-    }
-    if x.high < far {
-        return Found::Absent;
+    if !(x.low..=x.high).contains(&far) {
+        return None;
     }
     if absorbing(format, far, c) {
-        return Found::At(far);
+        return Some(far);
     }
     if far <= x.low {
-        return Found::Absent;
+        return None;
     }
-    Found::At(far - 1)
+    Some(far - 1)
 }
 
 // The greatest x of the range that absorbs c, for c above zero.
-pub(crate) fn greatest_absorber(format: Format, c: u64, x: Range) -> Found
+pub(crate) fn greatest_absorber(format: Format, c: u64, x: Range) -> Option<u64>
     requires { Sought format c x }
     ensures { GreatestOf (Absorber format c x) result }
 {
     if absorbing(format, x.high, c) {
-        return Found::At(x.high);
+        return Some(x.high);
     }
     let next = before_high(format, x);
     if absorbing(format, next, c) {
-        return Found::At(next);
+        return Some(next);
     }
     greatest_far(format, c, x)
 }

@@ -1,7 +1,6 @@
 // The clamp: a power of two that divides no value of the sum's range, and an operand's range without the stretch, beyond zero from the sum, in which every float is a multiple of it.
 ghost use Rattle.std.specs.Prelude.{◌≡◌, ◌-◌, ◌/◌, ◌^◌, ◌<◌, ◌≤◌};
 ghost use Rattle.ladder.specs.Search.{NoMultiple, SomeMultiple, raised, lowered};
-ghost use Rattle.arith.specs.Formats.{Sound};
 ghost use Rattle.arith.specs.Exacts.{Fraction};
 ghost use Rattle.arith.specs.Intervals.{Bounded, span};
 
@@ -36,22 +35,21 @@ pub(crate) fn granularity(fraction: u64, lo: u64, hi: u64) -> u64
 
 // The range without the values below zero of 2^(k + fraction) units and more.
 pub(crate) fn raise(format: Format, k: u64, r: Range) -> Range
-    requires { Sound format }
     ensures { span result ≡ raised format.fraction format.exponent k (span r) }
 {
     if shift_right(format.sign, format.fraction) <= k {
         return r;
     }
     let low = format.sign + 1 - shift_left(k + 1, format.fraction);
-    if r.low < low {
-        return Range { low, high: r.high };
+    Range {
+        low: r.low.max(low),
+        high: r.high,
     }
-    r
 }
 
 // The range without the values above zero of that size.
 pub(crate) fn lower(format: Format, k: u64, r: Range) -> Range
-    requires { (Sound format) × (Bounded format r) }
+    requires { Bounded format r }
     ensures { span result ≡ lowered format.fraction format.exponent k (span r) }
 {
     reflect(format, raise(format, k, reflect(format, r)))

@@ -1,153 +1,126 @@
 // The corner of the triples: the least x and the greatest a in a triple stand in one together. The walk to it begins at x's low and a's high end; x goes up where the sum falls short of b, and a comes down where it is past b. There is no loop: the clamp leaves two turns at most.
 ghost use Rattle.std.specs.Prelude.{◌<◌, ◌≤◌};
-ghost use Rattle.arith.specs.Formats.{Sound, sum};
-ghost use Rattle.arith.specs.Intervals.{Bounded};
-ghost use Rattle.arith.specs.Searches.{CornerOf, Fine, SameTriples};
+ghost use Rattle.arith.specs.Formats.{sum};
+ghost use Rattle.arith.specs.Searches.{CornerOf, InOrder, Fine, SameTriples};
 
 use crate::clamp::{granularity, lower, raise};
-use crate::format::Format;
-use crate::operand::{Found, greatest_operand, least_operand};
-use crate::range::Range;
+use crate::operand::{greatest_operand, least_operand};
+use crate::ranges::Ranges;
 use crate::sum::sum_of;
 
-// The ranges of both operands.
+// The triple with the least x and the greatest a.
 #[derive(Clone, Copy)]
-pub(crate) struct Operands {
-    pub(crate) x: Range,
-    pub(crate) a: Range,
-}
-
-// The triple with the least x and the greatest a, or that there is none.
-#[derive(Clone, Copy)]
-pub(crate) enum Corner {
-    At { x: u64, a: u64, b: u64 },
-    Absent,
+pub(crate) struct Corner {
+    pub(crate) x: u64,
+    pub(crate) a: u64,
+    pub(crate) b: u64,
 }
 
 // The corner where the sum of x's low and a's high end falls short of b: x goes up, and if that is past b, a comes down.
-fn climb(format: Format, x: Range, a: Range, b: Range) -> Corner
-    requires { (Sound format) × (Bounded format x) × (Bounded format a) × (Bounded format b) × (x.low ≤ x.high) × (a.low ≤ a.high) × (Fine format x a b) × (sum format x.low a.high < b.low) }
-    ensures { CornerOf format x a b result }
+fn climb(r: &Ranges) -> Option<Corner>
+    requires { (r.now.x.low ≤ r.now.x.high) × (r.now.a.low ≤ r.now.a.high) × (Fine r.now) × (sum r.now.format r.now.x.low r.now.a.high < r.now.b.low) }
+    ensures { CornerOf r.now result }
 {
-    let Found::At(p) = least_operand(format, a.high, b.low, x) else {
-        return Corner::Absent;
-    };
-    let s = sum_of(format, p, a.high);
-    if s <= b.high {
-        return Corner::At {
+    let p = least_operand(r.format, r.a.high, r.b.low, r.x)?;
+    let s = sum_of(r.format, p, r.a.high);
+    if s <= r.b.high {
+        return Some(Corner {
             x: p,
-            a: a.high,
+            a: r.a.high,
             b: s,
-        };
+        });
     }
-    let Found::At(q) = greatest_operand(format, p, b.high, a) else {
-        return Corner::Absent;
-    };
-    Corner::At {
+    let q = greatest_operand(r.format, p, r.b.high, r.a)?;
+    Some(Corner {
         x: p,
         a: q,
-        b: sum_of(format, p, q),
-    }
+        b: sum_of(r.format, p, q),
+    })
 }
 
 // Where it is past b: a comes down, and if that falls short of b, x goes up.
-fn descend(format: Format, x: Range, a: Range, b: Range) -> Corner
-    requires { (Sound format) × (Bounded format x) × (Bounded format a) × (Bounded format b) × (x.low ≤ x.high) × (a.low ≤ a.high) × (Fine format x a b) × (b.high < sum format x.low a.high) }
-    ensures { CornerOf format x a b result }
+fn descend(r: &Ranges) -> Option<Corner>
+    requires { (r.now.x.low ≤ r.now.x.high) × (r.now.a.low ≤ r.now.a.high) × (Fine r.now) × (r.now.b.high < sum r.now.format r.now.x.low r.now.a.high) }
+    ensures { CornerOf r.now result }
 {
-    let Found::At(q) = greatest_operand(format, x.low, b.high, a) else {
-        return Corner::Absent;
-    };
-    let s = sum_of(format, x.low, q);
-    if b.low <= s {
-        return Corner::At {
-            x: x.low,
+    let q = greatest_operand(r.format, r.x.low, r.b.high, r.a)?;
+    let s = sum_of(r.format, r.x.low, q);
+    if r.b.low <= s {
+        return Some(Corner {
+            x: r.x.low,
             a: q,
             b: s,
-        };
+        });
     }
-    let Found::At(p) = least_operand(format, q, b.low, x) else {
-        return Corner::Absent;
-    };
-    Corner::At {
+    let p = least_operand(r.format, q, r.b.low, r.x)?;
+    Some(Corner {
         x: p,
         a: q,
-        b: sum_of(format, p, q),
-    }
+        b: sum_of(r.format, p, q),
+    })
 }
 
 // The corner of operands with nothing too coarse for b: two turns are enough.
-fn walk(format: Format, x: Range, a: Range, b: Range) -> Corner
-    requires { (Sound format) × (Bounded format x) × (Bounded format a) × (Bounded format b) × (Fine format x a b) }
-    ensures { CornerOf format x a b result }
+fn walk(r: &Ranges) -> Option<Corner>
+    requires { Fine r.now }
+    ensures { CornerOf r.now result }
 {
-    if x.high < x.low {
-        return Corner::Absent;
+    if r.x.high < r.x.low || r.a.high < r.a.low {
+        return None;
     }
-    if a.high < a.low {
-        return Corner::Absent;
+    let s = sum_of(r.format, r.x.low, r.a.high);
+    if s < r.b.low {
+        return climb(r);
     }
-    let s = sum_of(format, x.low, a.high);
-    if s < b.low {
-        return climb(format, x, a, b);
+    if r.b.high < s {
+        return descend(r);
     }
-    if b.high < s {
-        return descend(format, x, a, b);
-    }
-    Corner::At {
-        x: x.low,
-        a: a.high,
+    Some(Corner {
+        x: r.x.low,
+        a: r.a.high,
         b: s,
-    }
+    })
 }
 
-// The operands without what is too coarse for b, where zero is not in b: no triple is lost.
-fn clamp(format: Format, x: Range, a: Range, b: Range) -> Operands
-    requires { (Sound format) × (Bounded format x) × (Bounded format a) × (Bounded format b) × (b.low ≤ b.high) }
-    ensures { SameTriples format x a b result }
+// The ranges without what of the operands is too coarse for b, where zero is not in b: no triple is lost.
+fn clamp(r: &Ranges) -> Ranges
+    requires { r.now.b.low ≤ r.now.b.high }
+    ensures { SameTriples r.now result }
 {
-    let zero = format.sign;
-    let fraction = format.fraction;
-    if zero < b.low {
-        let k = granularity(fraction, b.low - zero, b.high - zero);
-        return Operands {
-            x: raise(format, k, x),
-            a: raise(format, k, a),
-        };
+    let zero = r.format.sign;
+    let fraction = r.format.fraction;
+    if zero < r.b.low {
+        let k = granularity(fraction, r.b.low - zero, r.b.high - zero);
+        return r.with_operands(raise(r.format, k, r.x), raise(r.format, k, r.a));
     }
-    if b.high < zero {
-        let k = granularity(fraction, zero - b.high, zero - b.low);
-        return Operands {
-            x: lower(format, k, x),
-            a: lower(format, k, a),
-        };
+    if r.b.high < zero {
+        let k = granularity(fraction, zero - r.b.high, zero - r.b.low);
+        return r.with_operands(lower(r.format, k, r.x), lower(r.format, k, r.a));
     }
-    Operands { x, a }
+    *r
 }
 
 // The corner by the clamp and the walk.
-pub(crate) fn clamped_corner(format: Format, x: Range, a: Range, b: Range) -> Corner
-    requires { (Sound format) × (Bounded format x) × (Bounded format a) × (Bounded format b) × (b.low ≤ b.high) }
-    ensures { CornerOf format x a b result }
+#[tactic(auto, using(crate::proofs::Bounds::same_corner))]
+pub(crate) fn clamped_corner(r: &Ranges) -> Option<Corner>
+    requires { r.now.b.low ≤ r.now.b.high }
+    ensures { CornerOf r.now result }
 {
-    let o = clamp(format, x, a, b);
-    walk(format, o.x, o.a, b)
+    walk(&clamp(r))
 }
 
 // The corner: x's low and a's high end where these make a triple, else by the walk.
-pub(crate) fn corner_of(format: Format, x: Range, a: Range, b: Range) -> Corner
-    requires { (Sound format) × (Bounded format x) × (Bounded format a) × (Bounded format b) × (x.low ≤ x.high) × (a.low ≤ a.high) × (b.low ≤ b.high) }
-    ensures { CornerOf format x a b result }
+pub(crate) fn corner_of(r: &Ranges) -> Option<Corner>
+    requires { InOrder r.now }
+    ensures { CornerOf r.now result }
 {
-    let s = sum_of(format, x.low, a.high);
-    if b.low <= s {
-        if s <= b.high {
-            return Corner::At {
-                x: x.low,
-                a: a.high,
-                b: s,
-            };
-        }
+    let s = sum_of(r.format, r.x.low, r.a.high);
+    if (r.b.low..=r.b.high).contains(&s) {
+        return Some(Corner {
+            x: r.x.low,
+            a: r.a.high,
+            b: s,
+        });
     }
-    clamped_corner(format, x, a, b)
+    clamped_corner(r)
 }

@@ -1,12 +1,11 @@
 // Patterns and ordinals: which patterns are finite, the one with the other sign, the ordinal of a pattern of the width, and the one pattern that is written for a finite ordinal.
 ghost use Rattle.std.specs.Prelude.{◌≡◌, ◌+◌, ◌-◌, ◌*◌, ◌<◌};
-ghost use Rattle.arith.specs.Formats.{Sound, Finite, is_finite, negated, ordinal, pattern};
+ghost use Rattle.arith.specs.Formats.{Finite, is_finite, negated, ordinal, pattern};
 
 use crate::format::Format;
 
 // Whether a pattern is finite. One with bits beyond the width is not.
 pub(crate) fn finite(format: Format, p: u64) -> bool
-    requires { Sound format }
     ensures { result ≡ is_finite format p }
 {
     if p < format.sign {
@@ -17,7 +16,6 @@ pub(crate) fn finite(format: Format, p: u64) -> bool
 
 // The pattern with the other sign; both zeros have one.
 pub(crate) fn negate(format: Format, p: u64) -> u64
-    requires { Sound format }
     ensures { result ≡ negated format p }
 {
     if p == 0 {
@@ -31,7 +29,7 @@ pub(crate) fn negate(format: Format, p: u64) -> u64
 
 // The ordinal of a pattern with no bits beyond the width, an infinity's and a NaN's too.
 pub(crate) fn ordinal_of(format: Format, p: u64) -> u64
-    requires { (Sound format) × (p < 2 * format.sign) }
+    requires { p < 2 * format.sign }
     ensures { result ≡ ordinal format p }
 {
     if p < format.sign {
@@ -44,15 +42,12 @@ pub(crate) fn ordinal_of(format: Format, p: u64) -> u64
 pub(crate) fn distance_from_zero(format: Format, r: u64) -> u64
     ensures { result ≡ (r - format.sign) + (format.sign - r) }
 {
-    if r < format.sign {
-        return format.sign - r;
-    }
-    r - format.sign
+    r.abs_diff(format.sign)
 }
 
 // The pattern of a finite ordinal, zero with its sign clear.
 pub(crate) fn pattern_of(format: Format, r: u64) -> u64
-    requires { (Sound format) × (Finite format r) }
+    requires { Finite format r }
     ensures { result ≡ pattern format r }
 {
     if r < format.sign {

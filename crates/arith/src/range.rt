@@ -1,6 +1,7 @@
-// Ranges of ordinals: the ends of an interval as the arithmetic works on them. A range whose low is above its high holds nothing.
-ghost use Rattle.std.specs.Prelude.{◌≡◌, min, max};
-ghost use Rattle.arith.specs.Formats.{Sound, Finite, mirrored};
+// Ranges of ordinals: the ends of an interval as the arithmetic works on them. A range whose low is above its high holds nothing. It has no format,
+// so that two can be shared without a word about theirs; a function that works in one says that the ends are finite in it.
+ghost use Rattle.std.specs.Prelude.{◌≡◌};
+ghost use Rattle.arith.specs.Formats.{Finite, mirrored};
 ghost use Rattle.arith.specs.Intervals.{Bounded, is_ordered, common, reflected};
 
 use crate::format::Format;
@@ -18,33 +19,19 @@ pub(crate) fn ordered(r: Range) -> bool
     r.low <= r.high
 }
 
-// The greater of two.
-pub(crate) fn max(x: u64, y: u64) -> u64
-    ensures { result ≡ max x y }
-{
-    if x < y { y } else { x }
-}
-
-// The lesser of two.
-pub(crate) fn min(x: u64, y: u64) -> u64
-    ensures { result ≡ min x y }
-{
-    if x < y { x } else { y }
-}
-
 // What two ranges share.
 pub(crate) fn shared(r: Range, s: Range) -> Range
     ensures { result ≡ common r s }
 {
     Range {
-        low: max(r.low, s.low),
-        high: min(r.high, s.high),
+        low: r.low.max(s.low),
+        high: r.high.min(s.high),
     }
 }
 
 // The ordinal of the value with the other sign.
 pub(crate) fn mirror_of(format: Format, r: u64) -> u64
-    requires { (Sound format) × (Finite format r) }
+    requires { Finite format r }
     ensures { result ≡ mirrored format r }
 {
     if r < format.sign {
@@ -55,7 +42,7 @@ pub(crate) fn mirror_of(format: Format, r: u64) -> u64
 
 // From the mirrored high end to the mirrored low end.
 pub(crate) fn reflect(format: Format, r: Range) -> Range
-    requires { (Sound format) × (Bounded format r) }
+    requires { Bounded format r }
     ensures { result ≡ reflected format r }
 {
     Range {

@@ -9,7 +9,6 @@ ghost use Rattle.arith.specs.Steps.{RoundedSum, LeftOver};
 use crate::format::Format;
 use crate::sum::{Exact, ExactSum, Rounding, Scaled, Signed};
 use crate::words::{digits, shift_left, shift_wrapping};
-use std::num::{wrapping_add_u64, wrapping_sub_u64};
 
 // The low word of the size of an exact sum, in steps of 2^shift units.
 fn low_word(t: Exact) -> u64
@@ -18,9 +17,9 @@ fn low_word(t: Exact) -> u64
 {
     let larger = shift_wrapping(t.larger, t.gap);
     if t.opposite {
-        return wrapping_sub_u64(larger, t.smaller);
+        return larger.wrapping_sub(t.smaller);
     }
-    wrapping_add_u64(larger, t.smaller)
+    larger.wrapping_add(t.smaller)
 }
 
 // The low word of that size less a number of units that is no finer, in the same steps: wrapped around where this is below zero.
@@ -31,7 +30,7 @@ fn take_away(t: Exact, kept: Scaled) -> u64
     let over = kept.shift - t.shift;
     let exact = low_word(t);
     let rounded = shift_wrapping(kept.significand, over);
-    wrapping_sub_u64(exact, rounded)
+    exact.wrapping_sub(rounded)
 }
 
 // The m of n * 2^shift units, where n has no more digits than a significand: the way back from `decode` of `sum`.
@@ -40,7 +39,7 @@ pub(crate) fn encode(fraction: u64, n: u64, shift: u64) -> u64
     ensures { magnitude fraction result ≡ n * 2 ^ shift }
 {
     let room = fraction + 1 - digits(n);
-    let up = if room < shift { room } else { shift };
+    let up = room.min(shift);
     shift_left(shift - up, fraction) + shift_left(n, up)
 }
 
@@ -58,11 +57,7 @@ pub(crate) fn left_over(format: Format, t: ExactSum, r: Rounding) -> Signed
     let kept = r.kept;
     let left = take_away(size, kept);
     let past = 0x8000_0000_0000_0000 <= left;
-    let steps = if past {
-        wrapping_sub_u64(0, left)
-    } else {
-        left
-    };
+    let steps = if past { left.wrapping_neg() } else { left };
     let sign = if past { format.sign - t.sign } else { t.sign };
     Signed {
         sign,

@@ -3,15 +3,15 @@
 // add by it too; what rounding left over, `remainder` has from the first two. What each promises is said in specs/Steps. Rests on
 // `words`, `format`, `pattern`, `refusal` and `remainder`.
 ghost use Rattle.std.specs.Prelude.{◌≡◌, ◌+◌, ◌*◌, ◌^◌, ◌<◌, ◌≤◌};
-ghost use Rattle.arith.specs.Formats.{Sound, Finite, ordinal, pattern, sum};
+ghost use Rattle.arith.specs.Formats.{Finite, ordinal, pattern, sum};
 ghost use Rattle.arith.specs.Exacts.{parts_of, exact_of, Shaped, Roundable, joined_of, Scales, leading_of, kept_of, Fraction, Digits};
-ghost use Rattle.arith.specs.Sums.{mark_for, sum_answer, add_in};
+ghost use Rattle.arith.specs.Sums.{mark_number, mark_for, sum_answer, add_in};
 ghost use Rattle.arith.specs.Steps.{FinitePattern, FiniteSigned, Summands, ordinal_at, Represents, Exactly, RoundsUnits, Rounds, RangeTested, IsSum};
 ghost use Rattle.arith.specs.Additions.{GivesSum};
 
-use crate::format::{Format, format_of, known};
+use crate::format::Format;
 use crate::pattern::finite;
-use crate::refusal::{Refusal, refuse};
+use crate::refusal::{Reason, Refusal};
 use crate::remainder::left_over;
 use crate::words::{digits, dropped, shift_left, shift_right, sticky};
 
@@ -60,10 +60,19 @@ pub(crate) struct Rounding {
     pub(crate) kept: Scaled,
 }
 
-// What the range test leaves: the sum with its mark, or that it overflows, to the infinity of its sign.
+// 01's mark, by its numbers: nothing was lost, or the sum is rounded, or rounded and smaller than the smallest normal.
+#[derive(Clone, Copy, PartialEq, Eq)]
+pub enum Mark {
+    Exact = 0,
+    Rounded = 1,
+    Subnormal = 2,
+}
+
+// What the range test leaves: the sum with its mark, or that it overflows, to the infinity of its sign. An enum of its own, since
+// an overflow is no error here: the narrowing goes on with the infinity.
 #[derive(Clone, Copy)]
 pub(crate) enum Tested {
-    Finite { sum: Signed, mark: u64 },
+    Finite { sum: Signed, mark: Mark },
     Overflow { infinity: Signed },
 }
 
@@ -75,18 +84,15 @@ pub(crate) struct Addition {
     pub(crate) tested: Tested,
 }
 
-// The sum's pattern, its mark (0 exact, 1 rounded, 2 rounded and subnormal) and the pattern of what rounding left over, or the refusal.
-#[derive(Clone, Copy)]
-pub enum Sum {
-    Is {
-        pattern: u64,
-        mark: u64,
-        remainder: u64,
-    },
-    Refused(Refusal),
+// The sum's pattern, its mark and the pattern of what rounding left over.
+#[derive(Clone, Copy, PartialEq, Eq)]
+pub struct Sum {
+    pub pattern: u64,
+    pub mark: Mark,
+    pub remainder: u64,
 }
 
-// ---- step 1
+// ---- step 1. Steps 1 and 2 take the number of fraction bits alone: no exponent is too large for them
 
 // The value of m taken apart. The field above the fraction is the biased exponent; where it is 0 the float is subnormal, else
 // m - (field - 1) * 2^fraction is the fraction with its hidden digit.
@@ -238,24 +244,22 @@ fn round_sum(fraction: u64, t: Exact) -> Rounding
 
 // ---- step 3
 
-// 0 exact, 1 rounded, 2 rounded and smaller than the smallest normal, whose m is 2^fraction: sign - infinity.
-fn mark(format: Format, r: Rounded) -> u64
-    requires { Sound format }
+// The mark of a finite sum; the smallest normal's m is 2^fraction: sign - infinity.
+fn mark_for(format: Format, r: Rounded) -> Mark
     ensures { result ≡ mark_for format.fraction r.m r.exact }
 {
     if r.exact {
-        return 0;
+        return Mark::Exact;
     }
     if r.m < format.sign - format.infinity {
-        return 2;
+        return Mark::Subnormal;
     }
-    1
+    Mark::Rounded
 }
 
 // Step 3 (IEEE 754-2008, 7.4): the range test. The sum overflows, which is refusal 9, exactly where the rounded size passes the
 // largest finite float, whose m is the one before infinity's; else sign and m make its pattern, and it has its mark.
 fn range_test(format: Format, sign: u64, r: Rounded) -> Tested
-    requires { Sound format }
     ensures { RangeTested format sign r result }
 {
     if format.infinity <= r.m {
@@ -268,7 +272,7 @@ fn range_test(format: Format, sign: u64, r: Rounded) -> Tested
     }
     Tested::Finite {
         sum: Signed { sign, m: r.m },
-        mark: mark(format, r),
+        mark: mark_for(format, r),
     }
 }
 
@@ -291,12 +295,21 @@ fn add_signed(format: Format, x: Signed, a: Signed) -> Addition
     }
 }
 
-// ---- as ordinals and as patterns
+// ---- as numbers, ordinals and patterns
+
+impl Mark {
+    // 01's number.
+    pub fn number(self) -> u64
+        ensures { result ≡ mark_number self }
+    {
+        self as u64
+    }
+}
 
 impl Signed {
     // The float of a finite ordinal.
     fn from_ordinal(format: Format, r: u64) -> Self
-        requires { (Sound format) × (Finite format r) }
+        requires { Finite format r }
         ensures { Represents format r result }
     {
         if r < format.sign {
@@ -313,7 +326,7 @@ impl Signed {
 
     // The float of a finite pattern.
     fn from_pattern(format: Format, p: u64) -> Self
-        requires { (Sound format) × (FinitePattern format p) }
+        requires { FinitePattern format p }
         ensures { Represents format (ordinal format p) result }
     {
         if p < format.sign {
@@ -327,7 +340,7 @@ impl Signed {
 
     // Its ordinal, an infinity's too.
     fn ordinal(self, format: Format) -> u64
-        requires { (Sound format) × (self.m ≤ format.infinity) }
+        requires { self.m ≤ format.infinity }
         ensures { result ≡ ordinal_at format self }
     {
         if self.sign == 0 {
@@ -338,7 +351,7 @@ impl Signed {
 
     // Its pattern. Zero has its sign clear, whatever the signs of the operands, as 01 has it; 6.3 of the standard keeps that of -0 + -0.
     fn pattern(self, format: Format) -> u64
-        requires { (Sound format) × (FiniteSigned format self) }
+        requires { FiniteSigned format self }
         ensures { result ≡ pattern format (ordinal_at format self) }
     {
         if self.m == 0 {
@@ -366,7 +379,7 @@ pub(crate) fn sum_of(format: Format, x: u64, a: u64) -> u64
 }
 
 // The answer for two finite patterns: refusal 9, or pattern, mark and remainder.
-pub(crate) fn add_finite(format: Format, x: u64, a: u64) -> Sum
+pub(crate) fn add_finite(format: Format, x: u64, a: u64) -> Result<Sum, Refusal>
     requires { Summands FinitePattern format x a }
     ensures { result ≡ sum_answer format (ordinal format x) (ordinal format a) }
 {
@@ -379,36 +392,30 @@ pub(crate) fn add_finite(format: Format, x: u64, a: u64) -> Sum
     match tested {
         Tested::Finite { sum, mark } => {
             let left = left_over(format, s.exact, s.rounding);
-            Sum::Is {
+            Ok(Sum {
                 pattern: sum.pattern(format),
                 mark,
                 remainder: left.pattern(format),
-            }
+            })
         }
-        Tested::Overflow { infinity: _ } => Sum::Refused(refuse(9)),
+        Tested::Overflow { infinity: _ } => Err(Refusal::from(Reason::Overflow)),
     }
 }
 
 // The answer in a format.
-fn add_in(format: Format, x: u64, a: u64) -> Sum
-    requires { Sound format }
+#[tactic(auto, unfolding(crate::specs::Sums::add_in))]
+fn add_in(format: Format, x: u64, a: u64) -> Result<Sum, Refusal>
     ensures { result ≡ add_in format x a }
 {
-    if !finite(format, x) {
-        return Sum::Refused(refuse(2));
-    }
-    if !finite(format, a) {
-        return Sum::Refused(refuse(2));
-    }
+    Reason::NotFinite.unless(finite(format, x))?;
+    Reason::NotFinite.unless(finite(format, a))?;
     add_finite(format, x, a)
 }
 
 // The sum of two patterns with its mark and its remainder; refusals 1, 2 for x then a, 9, in this order.
-pub fn add(width: u64, x: u64, a: u64) -> Sum
+#[tactic(auto, unfolding(crate::specs::Sums::add_of), using(crate::proofs::Additions::gives_sum))]
+pub fn add(width: u64, x: u64, a: u64) -> Result<Sum, Refusal>
     ensures { GivesSum width x a result }
 {
-    if !known(width) {
-        return Sum::Refused(refuse(1));
-    }
-    add_in(format_of(width), x, a)
+    add_in(Format::try_from(width)?, x, a)
 }

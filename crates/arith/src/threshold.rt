@@ -1,6 +1,6 @@
 // The operand from which on the sum with a is at least b, without a search: twice the midpoint of b and the float below it, less twice a, is an exact difference; half of it, rounded up, is that operand, and where b is odd the midpoint itself is not enough.
 ghost use Rattle.std.specs.Prelude.{◌≡◌, ◌*◌, ◌^◌, ◌<◌, ◌≤◌};
-ghost use Rattle.arith.specs.Formats.{Sound, Finite};
+ghost use Rattle.arith.specs.Formats.{Finite};
 ghost use Rattle.arith.specs.Exacts.{Fraction};
 ghost use Rattle.arith.specs.Thresholds.{Crosses, doubled_of, halved_of, Threshold};
 
@@ -32,7 +32,7 @@ fn double(t: Exact, at_larger: u64, at_smaller: u64) -> Exact
 
 // Twice the midpoint of b and the float below it, less twice a. The midpoint lies half a step beyond the one of the two that is nearer to zero.
 fn crossing(format: Format, a: u64, b: u64) -> Difference
-    requires { (Sound format) × (Finite format a) × (Finite format b) }
+    requires { (Finite format a) × (Finite format b) }
     ensures { Crosses format a b result }
 {
     let zero = format.sign;
@@ -67,11 +67,7 @@ fn halve(fraction: u64, n: u64, shift: u64) -> Rounded
         return Rounded { m: 0, exact: true };
     }
     let size = digits(n) + shift;
-    let drop = if fraction + 2 < size {
-        size - (fraction + 2)
-    } else {
-        0
-    };
+    let drop = size.saturating_sub(fraction + 2);
     let base = shift_left(drop, fraction);
     if drop + 1 < shift {
         return Rounded {
@@ -88,7 +84,7 @@ fn halve(fraction: u64, n: u64, shift: u64) -> Rounded
 
 // The least operand with a sum of at least b.
 pub(crate) fn threshold(format: Format, a: u64, b: u64) -> u64
-    requires { (Sound format) × (Finite format a) × (Finite format b) }
+    requires { (Finite format a) × (Finite format b) }
     ensures { Threshold format a b result }
 {
     let zero = format.sign;

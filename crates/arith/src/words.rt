@@ -1,4 +1,4 @@
-// Shifts of a word by any amount, as products, quotients and remainders by a power of two, and the number of binary digits.
+// Shifts of a word by any amount, as products, quotients and remainders by a power of two, and the number of binary digits. An amount is a word, too large for the u32 of std's own checked shifts.
 ghost use Rattle.std.specs.Prelude.{◌≡◌, ◌*◌, ◌/◌, ◌%◌, ◌^◌, ◌<◌, min};
 ghost use Rattle.ladder.specs.Rounding.{digits};
 
@@ -44,12 +44,12 @@ pub(crate) fn dropped(n: u64, k: u64) -> u64
 pub(crate) fn sticky(n: u64, k: u64) -> u64
     ensures { result ≡ min (n % 2 ^ k) 1 }
 {
-    if dropped(n, k) == 0 { 0 } else { 1 }
+    dropped(n, k).min(1)
 }
 
 // The number of binary digits, 0 for 0.
 pub(crate) fn digits(n: u64) -> u64
     ensures { result ≡ digits n }
 {
-    64 - u64::leading_zeros(n) as u64
+    64 - n.leading_zeros() as u64
 }

@@ -1,4 +1,5 @@
 -- 01's starred texts: each is the text of its sheet, which reads back; the sheet's run is in the table; the listing is computed. Rests on `reader`'s round trip and Sheets.
+use Rattle.std.specs.Prelude.{Ok}
 use mathlib.Core.Path.{◌≡◌, refl, sym, ap, ◌∙◌}
 use mathlib.Core.List.{List, [], ◌∷◌}
 use Prim.Native.Nat.{ℕ}
@@ -8,7 +9,6 @@ use Rattle.arith.specs.declared.interval.Interval.{Interval}
 use Rattle.arith.specs.Intervals.{ends_finite, is_ordered, canonical_in, canonical_of}
 use Rattle.sheet.specs.declared.kept.Record.{Record}
 use Rattle.sheet.specs.declared.kept.Kept.{Kept}
-use Rattle.sheet.specs.declared.kept.Answer.TheVariants.{Done}
 use Rattle.sheet.specs.Faults.{head_fault, cell_fault, named_fault, record_fault}
 use Rattle.sheet.specs.Sheets.{first_fault, test_lists, test_of_lists}
 use Rattle.propagation.specs.Narrowings.{narrow_sheet_of}
@@ -23,7 +23,7 @@ use Rattle.examples.specs.Starred.{Listings, interval, over, two_sums_cells, tex
 use Rattle.examples.proofs.Sheets.{sheets}
 
 -- ---- the text of cells and records is run as their sheet
-text_run : (m : ℕ) (cells : List Interval) (records : List Record) (text : List ℕ) → test_of_lists 64 m cells records ≡ Done → text_for 64 m cells records ≡ text → run_of text ≡ narrow_sheet_of (built 64 m cells records)
+text_run : (m : ℕ) (cells : List Interval) (records : List Record) (text : List ℕ) → test_of_lists 64 m cells records ≡ Ok tt → text_for 64 m cells records ≡ text → run_of text ≡ narrow_sheet_of (built 64 m cells records)
 unfolding run_of
 text_run m cells records text g t = ap (λ (k : Kept). run_for k.sheet k.answer) (ap read_of (sym t) ∙ lists_back 64 m cells records g)
 
@@ -31,12 +31,12 @@ text_run m cells records text g t = ap (λ (k : Kept). run_for k.sheet k.answer)
 abbrev cells000 : List Interval
 cells000 = interval 0xC630000000000000 0xC330000000000000 ∷ interval 0x3FF0000000000000 0x4630000000000000 ∷ interval 0x3FE0000000000000 0x3FF8000000000000 ∷ []
 
-passing000 : test_of_lists 64 10 cells000 (over 0 1 2 ∷ []) ≡ Done
+passing000 : test_of_lists 64 10 cells000 (over 0 1 2 ∷ []) ≡ Ok tt
 unfolding test_lists first_fault head_fault cell_fault record_fault named_fault canonical_of canonical_in ends_finite is_ordered ordinal sign infinity
 passing000 = refl
 
 -- ---- the two sums
-two_sums_passing : (test_of_lists 64 5 two_sums_cells (over 0 1 2 ∷ over 2 3 0 ∷ []) ≡ Done) × (test_of_lists 64 6 two_sums_cells (over 0 1 2 ∷ over 2 3 0 ∷ []) ≡ Done)
+two_sums_passing : (test_of_lists 64 5 two_sums_cells (over 0 1 2 ∷ over 2 3 0 ∷ []) ≡ Ok tt) × (test_of_lists 64 6 two_sums_cells (over 0 1 2 ∷ over 2 3 0 ∷ []) ≡ Ok tt)
 unfolding test_lists first_fault head_fault cell_fault record_fault named_fault canonical_of canonical_in ends_finite is_ordered ordinal sign infinity
 two_sums_passing = (refl, refl)
 

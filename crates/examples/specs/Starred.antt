@@ -1,11 +1,13 @@
 -- The table of 01's starred examples, each as an equation of the definitions. Assumes nothing.
 -- Document 000 is D. Gallois-Wong, S. Boldo, P. Cuoq, Optimal Inverse Projection of Floating-Point Addition.
-use Rattle.std.specs.Prelude.{◌≡◌, List, [], ◌∷◌, ℕ, length}
+use Rattle.std.specs.Prelude.{◌≡◌, List, [], ◌∷◌, ℕ, length, Result, Ok, Err}
 use Prim.Native.String.{String, ◌++◌}
-use Rattle.arith.specs.declared.sum.Sum.TheVariants.{Is, Refused}
+use Rattle.arith.specs.declared.refusal.Reason.{Reason}
+use Rattle.arith.specs.declared.refusal.Refusal.{Refusal}
+use Rattle.arith.specs.declared.sum.Mark.{Mark}
+use Rattle.arith.specs.declared.sum.Sum.{Sum}
 use Rattle.arith.specs.declared.interval.Interval.{Interval}
-use Rattle.arith.specs.declared.narrow.Narrowed.TheVariants.{Ends}
-use Rattle.arith.specs.declared.narrow.Narrowed.TheVariants as Narrowed
+use Rattle.arith.specs.declared.narrow.Narrowed.{Narrowed}
 use Rattle.arith.specs.Refusals.{refusal}
 use Rattle.arith.specs.Sums.{add_of}
 use Rattle.arith.specs.Narrows.{narrow_of}
@@ -18,19 +20,24 @@ use Rattle.listing.specs.Listings.{run_of, listing_of}
 use Rattle.examples.specs.Quoted.{bytes}
 
 -- ---- sums, each with its mark and what rounding left over (02)
+-- a sum: its pattern, its mark and what it leaves over
+abbrev pub sum_of : ℕ → Mark → ℕ → Result Sum Refusal
+sum_of p mark r = Ok (record { pattern = p; mark = mark; remainder = r })
+
+-- 01's sums
 pub record Sums : Type 0 where
   -- 1 ⊕ half an ulp: a tie, to the even 1
-  pub tie : add_of 64 0x3FF0000000000000 0x3CA0000000000000 ≡ Is 0x3FF0000000000000 1 0x3CA0000000000000
+  pub tie : add_of 64 0x3FF0000000000000 0x3CA0000000000000 ≡ sum_of 0x3FF0000000000000 Mark.Rounded 0x3CA0000000000000
   -- a little more than half an ulp: up
-  pub past_tie : add_of 64 0x3FF0000000000000 0x3CA0000000000001 ≡ Is 0x3FF0000000000001 1 0xBC9FFFFFFFFFFFFE
+  pub past_tie : add_of 64 0x3FF0000000000000 0x3CA0000000000001 ≡ sum_of 0x3FF0000000000001 Mark.Rounded 0xBC9FFFFFFFFFFFFE
   -- the smallest float twice
-  pub smallest : add_of 64 0x0000000000000001 0x0000000000000001 ≡ Is 0x0000000000000002 0 0x0000000000000000
+  pub smallest : add_of 64 0x0000000000000001 0x0000000000000001 ≡ sum_of 0x0000000000000002 Mark.Exact 0x0000000000000000
   -- the largest float and less than half its ulp
-  pub largest : add_of 64 0x7FEFFFFFFFFFFFFF 0x7C80000000000000 ≡ Is 0x7FEFFFFFFFFFFFFF 1 0x7C80000000000000
+  pub largest : add_of 64 0x7FEFFFFFFFFFFFFF 0x7C80000000000000 ≡ sum_of 0x7FEFFFFFFFFFFFFF Mark.Rounded 0x7C80000000000000
   -- the largest float and half its ulp: no finite sum
-  pub too_large : add_of 64 0x7FEFFFFFFFFFFFFF 0x7C90000000000000 ≡ Refused (refusal 9)
+  pub too_large : add_of 64 0x7FEFFFFFFFFFFFFF 0x7C90000000000000 ≡ Err (refusal Reason.Overflow)
   -- the tie at width 32
-  pub tie_32 : add_of 32 0x3F800000 0x33800000 ≡ Is 0x3F800000 1 0x33800000
+  pub tie_32 : add_of 32 0x3F800000 0x33800000 ≡ sum_of 0x3F800000 Mark.Rounded 0x33800000
 
 -- ---- narrowings
 -- an interval by its ends
@@ -57,20 +64,24 @@ all32 = interval 0xFF7FFFFF 0x7F7FFFFF
 abbrev pub one32 : Interval
 one32 = point 0x3F800000
 
+-- a narrowing: the ends of x, a and b
+abbrev pub ends : Interval → Interval → Interval → Result Narrowed Refusal
+ends x a b = Ok (record { x = x; a = a; b = b })
+
 -- 01's narrowings, in the first three x over all finite floats
 pub record Narrowings : Type 0 where
   -- a = b = 1: below 1 floats are twice as dense
-  pub absorbed : narrow_of 64 all64 one64 one64 ≡ Ends (interval 0xBC90000000000000 0x3CA0000000000000) one64 one64
-  pub absorbed_32 : narrow_of 32 all32 one32 one32 ≡ Ends (interval 0xB3000000 0x33800000) one32 one32
+  pub absorbed : narrow_of 64 all64 one64 one64 ≡ ends (interval 0xBC90000000000000 0x3CA0000000000000) one64 one64
+  pub absorbed_32 : narrow_of 32 all32 one32 one32 ≡ ends (interval 0xB3000000 0x33800000) one32 one32
   -- a is 2 or its successor
-  pub gap : narrow_of 64 all64 (interval 0x4000000000000000 0x4000000000000001) one64 ≡ Ends (interval 0xBFF0000000000002 0xBFEFFFFFFFFFFFFF) (interval 0x4000000000000000 0x4000000000000001) one64
+  pub gap : narrow_of 64 all64 (interval 0x4000000000000000 0x4000000000000001) one64 ≡ ends (interval 0xBFF0000000000002 0xBFEFFFFFFFFFFFFF) (interval 0x4000000000000000 0x4000000000000001) one64
   -- a float between the two ends that fits no triple
-  pub between : narrow_of 64 (point 0xBFF0000000000001) (interval 0x4000000000000000 0x4000000000000001) one64 ≡ Narrowed.Refused (refusal 11)
+  pub between : narrow_of 64 (point 0xBFF0000000000001) (interval 0x4000000000000000 0x4000000000000001) one64 ≡ Err (refusal Reason.NoTriple)
   -- every such sum is even
-  pub even : narrow_of 64 (interval 0x4340000000000000 0x4350000000000000) (interval 0xC350000000000000 0xC340000000000000) one64 ≡ Narrowed.Refused (refusal 11)
+  pub even : narrow_of 64 (interval 0x4340000000000000 0x4350000000000000) (interval 0xC350000000000000 0xC340000000000000) one64 ≡ Err (refusal Reason.NoTriple)
   -- document 000's example
   pub document_000 : narrow_of 64 (interval 0xC630000000000000 0xC330000000000000) (interval 0x3FF0000000000000 0x4630000000000000) (interval 0x3FE0000000000000 0x3FF8000000000000)
-      ≡ Ends (interval 0xC33FFFFFFFFFFFFF 0xC330000000000000) (interval 0x4330000000000001 0x4340000000000000) one64
+      ≡ ends (interval 0xC33FFFFFFFFFFFFF 0xC330000000000000) (interval 0x4330000000000001 0x4340000000000000) one64
 
 -- ---- sheets
 -- a sheet of width 64 with these cells and records

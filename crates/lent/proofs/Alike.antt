@@ -1,25 +1,24 @@
 -- Lent lists and the sheet that they make: the same test, the same run, the same answer.
 -- Assumes nothing.
+use Rattle.std.specs.Prelude.{Ok, Err}
 use mathlib.Core.Path.{◌≡◌, refl, sym, ap, ◌∙◌}
-use mathlib.Core.List.{List, [], ◌∷◌, ◌++◌, append-nil}
-use Prim.Native.Nat.{ℕ, zero, suc, ◌<◌, ◌≤◌, min}
-use native.Mathlib.Nat.{not-suc-le-zero, le_of_suc-le-suc}
+use mathlib.Core.List.{List, append-nil}
+use Prim.Native.Nat.{ℕ, ◌≤◌, min}
 use native.Mathlib.Omega.{arith}
 use native.Mathlib.Decide.{dec_lt}
-use lib.ListN.{length, get_or, set, take, drop, replicate, length-map, length-replicate}
+use lib.ListN.{length, take, drop, replicate, length-map}
 use lib.Seq.{take-length, drop-length, take_at}
 use Rattle.arith.specs.declared.interval.Interval.{Interval}
+use Rattle.arith.specs.declared.refusal.Reason.{Reason}
 use Rattle.arith.specs.declared.refusal.Refusal.{Refusal}
+use Rattle.arith.specs.Refusals.{refusal, refusal_at}
 use Rattle.sheet.specs.declared.kept.Record.{Record}
 use Rattle.sheet.specs.declared.kept.Sheet.{Sheet}
-use Rattle.sheet.specs.declared.kept.Answer.{Answer}
-use Rattle.sheet.specs.declared.kept.Answer.TheVariants.{Done, Refused}
 use Rattle.sheet.specs.Boxes.{Box}
 use Rattle.sheet.specs.Cells.{rules_of, box_of, cells_of}
-use Rattle.sheet.specs.Faults.{head_fault}
-use Rattle.sheet.specs.Sheets.{no_cell, no_record, places, used_cells, used_records, tidied, test_lists, test_of_lists, test_of}
+use Rattle.sheet.specs.Faults.{Fault, head_fault}
+use Rattle.sheet.specs.Sheets.{Answer, no_cell, no_record, places, used_cells, used_records, tidied, test_lists, test_of_lists, test_of}
 use Rattle.sheet.proofs.Answers.{test_head, test_many_cells, test_many_records}
-use Rattle.sheet.proofs.Filling.{length_filled}
 use Rattle.propagation.specs.declared.narrowing.Run.{Run}
 use Rattle.propagation.specs.Runs.{Ended, settled, stopped, no_triple, run, left_by}
 use Rattle.propagation.specs.Calls.{lent_call, outcome_by, outcome_after, cells_after, Narrows}
@@ -30,23 +29,11 @@ use Rattle.propagation.proofs.Places.{places_used}
 use Rattle.propagation.proofs.Calls.{narrows}
 use Rattle.lent.specs.Loading.{puts, stored_cells, stored_count, sheet_of}
 
--- ---- members put one by one
-module _ {A : Type 0} (d : A) where
-  one_more : (from to : List A) (k : ℕ) → k < length from → k < length to → set (take k from ++ drop k to) k (get_or from k d) ≡ take (suc k) from ++ drop (suc k) to
-  one_more [] to k l m = absurd (not-suc-le-zero l)
-  one_more (x ∷ from) [] k l m = absurd (not-suc-le-zero m)
-  one_more (x ∷ from) (y ∷ to) zero l m = refl
-  one_more (x ∷ from) (y ∷ to) (suc k) l m = ap (λ (t : List A). x ∷ t) (one_more from to k (le_of_suc-le-suc l) (le_of_suc-le-suc m))
-
-  puts_is : (from : List A) (n : ℕ) (to : List A) → n ≤ length from → n ≤ length to → puts d from n to ≡ take n from ++ drop n to
-  puts_is from zero to l m = refl
-  puts_is from (suc k) to l m = ap (λ (t : List A). set t k (get_or from k d)) (puts_is from k to (omega arith) (omega arith)) ∙ one_more from to k l m
-
-  -- a list put in, and read back
-  put_in : (from to : List A) (most : ℕ) → length from ≤ most → length to ≡ most → take (length from) (puts d from (min (length from) most) to) ≡ from
-  put_in from to most l m =
-      let n : min (length from) most ≡ length from = omega arith in
-      rw (n, puts_is from (length from) to (omega arith) (omega arith), take-length from) (take_at from (drop (length from) to) (length from) refl)
+-- a list put in, and read back
+put_in : {A : Type 0} (from to : List A) (most : ℕ) → length from ≤ most → take (length from) (puts from (min (length from) most) to) ≡ from
+put_in from to most l =
+    let n : min (length from) most ≡ length from = omega arith in
+    rw (n, take-length from) (take_at from (drop (length from) to) (length from) refl)
 
 -- ---- the answers
 module _ (width limit : ℕ) (ys : List Interval) (zs : List Record) where
@@ -66,18 +53,18 @@ module _ (width limit : ℕ) (ys : List Interval) (zs : List Record) where
   -- the sheet's test is that of the lists; lists that are let pass have their places in it, and its run is theirs
   record Alike : Type 0 where
     test : test_of made ≡ tested
-    few : tested ≡ Done → length ys ≤ 64
-    end : tested ≡ Done → end_of made ≡ ended
+    few : tested ≡ Ok tt → length ys ≤ 64
+    end : tested ≡ Ok tt → end_of made ≡ ended
 
   -- lists that the sheet has places for
   module _ (few_cells : length ys ≤ 64) (few_records : length zs ≤ 128) where
     used_cells_lem : used_cells made ≡ ys
     unfolding sheet_of
-    used_cells_lem = put_in no_cell ys (replicate 64 no_cell) 64 few_cells (length-replicate 64 no_cell)
+    used_cells_lem = put_in ys (replicate 64 no_cell) 64 few_cells
 
     used_records_lem : used_records made ≡ zs
     unfolding sheet_of
-    used_records_lem = put_in no_record zs (replicate 128 no_record) 128 few_records (length-replicate 128 no_record)
+    used_records_lem = put_in zs (replicate 128 no_record) 128 few_records
 
     placed_alike : Alike
     unfolding sheet_of
@@ -88,7 +75,7 @@ module _ (width limit : ℕ) (ys : List Interval) (zs : List Record) where
     }
 
   -- lists that are refused whatever they hold
-  refused_alike : (q : Refusal) → ((cells : List Interval) (records : List Record) → Refused q ≡ test_lists width limit (length ys) (length zs) cells records) → Alike
+  refused_alike : (q : Refusal) → ((cells : List Interval) (records : List Record) → Err q ≡ test_lists width limit (length ys) (length zs) cells records) → Alike
   unfolding sheet_of
   refused_alike q all =
       let e = all ys zs in
@@ -100,28 +87,27 @@ module _ (width limit : ℕ) (ys : List Interval) (zs : List Record) where
 
   alike : Alike
   alike =
-      elim (dec_lt 0 (head_fault width limit)) [
-        | yes bad ↦ refused_alike (record { number = head_fault width limit; place = 0 }) (λ cells records. test_head width limit (length ys) (length zs) cells records (λ z. omega (arith, bad, z)))
-        | no good ↦
-            let z : head_fault width limit ≡ 0 = omega (arith, good) in
-            elim (dec_lt 64 (length ys)) [
-              | yes many ↦ refused_alike (record { number = 10; place = 64 }) (λ cells records. test_many_cells width limit (length ys) (length zs) cells records z many)
-              | no few ↦
-                  let few_cells : length ys ≤ 64 = omega (arith, few) in
-                  elim (dec_lt 128 (length zs)) [
-                    | yes many ↦ refused_alike (record { number = 10; place = 128 }) (λ cells records. test_many_records width limit (length ys) (length zs) cells records z few_cells many)
-                    | no few_records ↦ placed_alike few_cells (omega (arith, few_records))
-                  ]
-            ]
-      ]
+      go (head_fault width limit) refl
+    where
+      go : (f : Fault) → head_fault width limit ≡ f → Alike
+      go (Err r) bad = refused_alike (refusal r) (λ cells records. test_head width limit (length ys) (length zs) cells records r bad)
+      go (Ok u) good =
+          elim (dec_lt 64 (length ys)) [
+            | yes many ↦ refused_alike (refusal_at Reason.Full 64) (λ cells records. test_many_cells width limit (length ys) (length zs) cells records good many)
+            | no few ↦
+                let few_cells : length ys ≤ 64 = omega (arith, few) in
+                elim (dec_lt 128 (length zs)) [
+                  | yes many ↦ refused_alike (refusal_at Reason.Full 128) (λ cells records. test_many_records width limit (length ys) (length zs) cells records good few_cells many)
+                  | no few_records ↦ placed_alike few_cells (omega (arith, few_records))
+                ]
+          ]
 
   -- the cells that the walk leaves are those of the run's box, or as they were
   module _ (few : length ys ≤ 64) where
-    kept_box : (box : Box) → length box ≡ length ys → puts no_cell (places width (length ys) box) (min (length ys) 64) ys ≡ cells_of width box
+    kept_box : (box : Box) → length box ≡ length ys → puts (places width (length ys) box) (min (length ys) 64) ys ≡ cells_of width box
     kept_box box l =
         let n : min (length ys) 64 ≡ length ys = omega arith in
-        let m : length (places width (length ys) box) ≡ 64 = length_filled 64 (length ys) no_cell (cells_of width box) (length-map box _ ∙ l) few in
-        rw (n, puts_is no_cell (places width (length ys) box) (length ys) ys (omega arith) (omega arith), places_used width (length ys) box l, drop-length ys) (append-nil (cells_of width box))
+        rw (n, places_used width (length ys) box l, drop-length ys) (append-nil (cells_of width box))
 
     kept_by_lem : (E : Ended) → InsideOrFails (box_of width ys) E → kept (ran_on made E) ≡ left_by (cells_of width) ys E
     unfolding sheet_of tidied
@@ -130,12 +116,12 @@ module _ (width limit : ℕ) (ys : List Interval) (zs : List Record) where
     kept_by_lem (no_triple p k) w = refl
 
   outcome_is : (a : Answer) → tested ≡ a → (run_after a made).outcome ≡ outcome_after a ended
-  outcome_is Done t = ap outcome_by (alike.end t)
-  outcome_is (Refused q) t = refl
+  outcome_is (Ok u) t = ap outcome_by (alike.end t)
+  outcome_is (Err q) t = refl
 
   cells_are : (a : Answer) → tested ≡ a → kept (run_after a made) ≡ cells_after a width ys ended
-  cells_are Done t = ap (λ (E : Ended). kept (ran_on made E)) (alike.end t) ∙ kept_by_lem (alike.few t) ended (run_inside (rules_of width) zs limit (box_of width ys))
-  cells_are (Refused q) t = refl
+  cells_are (Ok u) t = ap (λ (E : Ended). kept (ran_on made E)) (alike.end t) ∙ kept_by_lem (alike.few t) ended (run_inside (rules_of width) zs limit (box_of width ys))
+  cells_are (Err q) t = refl
 
   -- what the walk leaves is what the lists' answer says
   pub lists_narrow : (r : Run) → NarrowsSheet made r → Narrows (lent_call width limit ys zs (kept r) r.outcome)

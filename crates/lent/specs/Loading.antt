@@ -1,16 +1,15 @@
 -- The walk between lent lists and a sheet: cells and records put into its places, cells stored back. Assumes nothing.
-use Rattle.std.specs.Prelude.{List, ℕ, zero, suc, min, length, get_or, set}
+use Rattle.std.specs.Prelude.{List, ℕ, ◌++◌, min, length, take, drop}
 use Rattle.arith.specs.declared.interval.Interval.{Interval}
 use Rattle.sheet.specs.declared.kept.Record.{Record}
 use Rattle.sheet.specs.declared.kept.Sheet.{Sheet}
 use Rattle.propagation.specs.declared.passes.Outcome.{Outcome}
 use Rattle.propagation.specs.declared.passes.Outcome.TheVariants.{Settled, NoTriple, Stopped, Refused}
-use Rattle.sheet.specs.Sheets.{no_cell, no_record, blank, with_cells}
+use Rattle.sheet.specs.Sheets.{blank, with_cells}
 
--- a list with the first n members of another in its first places, put one by one
-abbrev pub puts : {A : Type 0} → A → List A → ℕ → List A → List A
-puts d from zero to = to
-puts d from (suc k) to = set (puts d from k to) k (get_or from k d)
+-- a list with the first n members of another in its first places
+abbrev pub puts : {A : Type 0} → List A → ℕ → List A → List A
+puts from n to = take n from ++ drop n to
 
 -- a sheet with other records
 abbrev pub with_records : Sheet → List Record → Sheet
@@ -38,15 +37,15 @@ with_counts s n m =
 
 -- the sheet with the first n cells of a list
 abbrev pub loaded_cells : List Interval → ℕ → Sheet → Sheet
-loaded_cells cells n s = with_cells s (puts no_cell cells n s.cells)
+loaded_cells cells n s = with_cells s (puts cells n s.cells)
 
 -- the sheet with the first n records of a list
 abbrev pub loaded_records : List Record → ℕ → Sheet → Sheet
-loaded_records records n s = with_records s (puts no_record records n s.records)
+loaded_records records n s = with_records s (puts records n s.records)
 
 -- the list with the first n cells of a sheet
 abbrev pub stored_cells : List Interval → ℕ → Sheet → List Interval
-stored_cells cells n s = puts no_cell s.cells n cells
+stored_cells cells n s = puts s.cells n cells
 
 -- how many of n cells are stored back: all where the run settled or stopped, else none
 abbrev pub stored_count : Outcome → ℕ → ℕ

@@ -1,111 +1,41 @@
 // Lent lists: the host's cells, narrowed in place, and its records. A walk between the lists and the sheet by value, which does the work.
-ghost use Rattle.std.specs.Prelude.{◌≡◌, ◌<◌, ◌≤◌, min, length, get_or, set};
-ghost use Rattle.sheet.specs.Sheets.{no_cell, blank, with_cells};
-ghost use Rattle.lent.specs.Loading.{with_records, with_counts, loaded_cells, loaded_records, stored_cells, stored_count};
+ghost use Rattle.std.specs.Prelude.{◌≡◌, min, length};
+ghost use Rattle.lent.specs.Loading.{puts, stored_cells, stored_count, sheet_of};
 ghost use Rattle.propagation.specs.Calls.{lent_call, Narrows};
 
 use arith::interval::Interval;
-use propagation::narrowing::narrow_sheet;
+use propagation::narrowing::{Run, narrow_sheet};
 use propagation::passes::Outcome;
 use sheet::kept::{Record, Sheet, blank_sheet};
 
-// The lesser of two numbers.
-fn min(n: usize, most: usize) -> usize
-    ensures { result ≡ min n most }
+// Puts the first members of a list into the first of some places, as many as there are of both.
+fn put<T: Copy>(list: &[T], places: &mut [T])
+    ensures { places.new ≡ puts list.now (min (length list.now) (length places.old)) places.old }
 {
-    if n < most {
-        return n;
-    }
-    most
+    let n = list.len().min(places.len());
+    places[..n].copy_from_slice(&list[..n]);
 }
 
-// An empty sheet with the lengths of the lists as its counts.
-fn count_lists(width: u64, limit: u64, cell_count: usize, record_count: usize) -> Sheet
-    ensures { result ≡ with_counts (blank width limit) cell_count record_count }
+// The sheet of the lists: their lengths as its counts, and as many cells and records as it has places for.
+#[tactic(auto, unfolding(crate::specs::Loading::sheet_of))]
+fn load(width: u64, limit: u64, cells: &[Interval], records: &[Record]) -> Sheet
+    ensures { result ≡ sheet_of width limit cells.now records.now }
 {
     let mut sheet = blank_sheet(width, limit);
-    sheet.cell_count = cell_count as u64;
-    sheet.record_count = record_count as u64;
+    sheet.cell_count = cells.len() as u64;
+    sheet.record_count = records.len() as u64;
+    put(cells, &mut sheet.cells);
+    put(records, &mut sheet.records);
     sheet
 }
 
-// One cell is put into the sheet.
-fn put_cell(sheet: Sheet, i: usize, cell: Interval) -> Sheet
-    requires { i < 64 }
-    ensures { result ≡ with_cells sheet (set sheet.cells i cell) }
+// Stores a run's cells back into the list, where the outcome does so.
+fn store(run: &Run, cells: &mut [Interval])
+    ensures { cells.new ≡ stored_cells cells.old (stored_count run.now.outcome (min (length cells.old) 64)) run.now.sheet }
 {
-    let mut next = sheet;
-    next.cells[i] = cell;
-    next
-}
-
-// One record is put into the sheet.
-fn put_record(sheet: Sheet, i: usize, record: Record) -> Sheet
-    requires { i < 128 }
-    ensures { result ≡ with_records sheet (set sheet.records i «record») }
-{
-    let mut next = sheet;
-    next.records[i] = record;
-    next
-}
-
-// One cell of the sheet.
-fn get_cell(sheet: Sheet, i: usize) -> Interval
-    requires { i < 64 }
-    ensures { result ≡ get_or sheet.cells i no_cell }
-{
-    sheet.cells[i]
-}
-
-// How many cells an outcome stores back.
-fn stored_count(outcome: Outcome, n: usize) -> usize
-    ensures { result ≡ stored_count outcome n }
-{
-    match outcome {
-        Outcome::Settled { .. } => n,
-        Outcome::NoTriple { .. } => 0,
-        Outcome::Stopped { .. } => n,
-        Outcome::Refused(_) => 0,
-    }
-}
-
-// The sheet with the first n cells of the list.
-fn load_cells(cells: &[Interval], n: usize, sheet: Sheet) -> Sheet
-    requires { (n ≤ length cells.now) × (n ≤ 64) }
-    ensures { result ≡ loaded_cells cells.now n sheet }
-{
-    let mut next = sheet;
-    let mut i: usize = 0;
-    while i < n {
-        next = put_cell(next, i, cells[i]);
-        i += 1;
-    }
-    next
-}
-
-// The sheet with the first n records of the list.
-fn load_records(records: &[Record], n: usize, sheet: Sheet) -> Sheet
-    requires { (n ≤ length records.now) × (n ≤ 128) }
-    ensures { result ≡ loaded_records records.now n sheet }
-{
-    let mut next = sheet;
-    let mut i: usize = 0;
-    while i < n {
-        next = put_record(next, i, records[i]);
-        i += 1;
-    }
-    next
-}
-
-// The list with the first n cells of the sheet.
-fn store_cells(cells: &mut [Interval], n: usize, sheet: Sheet)
-    requires { (n ≤ length cells.old) × (n ≤ 64) }
-    ensures { cells.new ≡ stored_cells cells.old n sheet }
-{
-    let mut i: usize = 0;
-    while i < n {
-        cells[i] = get_cell(sheet, i);
-        i += 1;
+    match run.outcome {
+        Outcome::Settled { .. } | Outcome::Stopped { .. } => put(&run.sheet.cells, cells),
+        Outcome::NoTriple { .. } | Outcome::Refused(_) => {}
     }
 }
 
@@ -113,16 +43,7 @@ fn store_cells(cells: &mut [Interval], n: usize, sheet: Sheet)
 pub fn narrow_lists(width: u64, limit: u64, cells: &mut [Interval], records: &[Record]) -> Outcome
     ensures { Narrows (lent_call width limit cells.old records.now cells.new result) }
 {
-    let cell_count = cells.len();
-    let record_count = records.len();
-    let blank = count_lists(width, limit, cell_count, record_count);
-    let cells_held = min(cell_count, 64);
-    let records_held = min(record_count, 128);
-    let with_cells = load_cells(cells, cells_held, blank);
-    let full = load_records(records, records_held, with_cells);
-    let run = narrow_sheet(full);
-    let outcome = run.outcome;
-    let back = stored_count(outcome, cells_held);
-    store_cells(cells, back, run.sheet);
-    outcome
+    let run = narrow_sheet(load(width, limit, cells, records));
+    store(&run, cells);
+    run.outcome
 }

@@ -1,12 +1,14 @@
 -- The lines of one cell more. Rests on specs/Listings.
 use mathlib.Core.Path.{◌≡◌, sym, ◌∙◌}
 use mathlib.Core.List.{List, [], ◌∷◌, ◌++◌, append_assoc, append-nil}
-use Prim.Native.Nat.{ℕ, suc, ◌+◌, ◌≤◌, ◌<◌}
+use Prim.Native.Nat.{ℕ, suc, ◌+◌, ◌<◌, min}
+use mathlib.Core.Logic.{inl, inr}
 use native.Mathlib.Nat.{add-zero}
 use native.Mathlib.Numerals.{add-one}
 use native.Mathlib.Omega.{arith}
 use lib.ListN.{length, get_or, take}
 use lib.Seq.{take-suc, take_all, length-take-le}
+use Rattle.ladder.proofs.Cases.{le_or_lt}
 use Rattle.arith.specs.declared.interval.Interval.{Interval}
 use Rattle.listing.specs.Listings.{cell_line, cell_lines}
 
@@ -23,6 +25,9 @@ lines_on width i cs v h =
     let e : 0 + length (take i cs) ≡ i = omega (arith, length-take-le i cs (omega arith)) in
     rw (add-one i, take-suc cs i v h, lines_snoc width 0 (take i cs) (get_or cs i v), e)
 
--- all cells are in use where there are no more places
-pub take_same : (cs : List Interval) (i n : ℕ) → length cs ≤ i → length cs ≤ n → take i cs ≡ take n cs
-take_same cs i n h k = take_all i cs h ∙ sym (take_all n cs k)
+-- no more cells are in use than there are
+pub take_used : (n : ℕ) (cs : List Interval) → take (min n (length cs)) cs ≡ take n cs
+take_used n cs = elim (le_or_lt n (length cs)) [
+  | inl a ↦ let e : min n (length cs) ≡ n = omega arith in rw e
+  | inr b ↦ let e : min n (length cs) ≡ length cs = omega arith in rw e (take_all (length cs) cs (omega arith) ∙ sym (take_all n cs (omega arith)))
+]

@@ -8,23 +8,24 @@ use lib.Dec.{leb}
 use lib.ListN.{length}
 use borrow.Author.Tests.{le-leb, lt-leb}
 use Rattle.ladder.proofs.Cases.{le_or_lt}
+use Rattle.arith.specs.declared.refusal.Reason.{Reason}
 use Rattle.arith.specs.Refusals.{refusal}
-use Rattle.arith.proofs.Replies.{on_test, told_chain}
+use Rattle.arith.specs.Answers.{Reply}
+use Rattle.arith.specs.Replies.{Test}
+use Rattle.arith.proofs.Replies.{on_test, Refuses, after_chain}
 use Rattle.sheet.specs.declared.kept.Sheet.{Sheet}
-use Rattle.sheet.specs.declared.kept.Answer.{Answer}
 use Rattle.propagation.specs.declared.narrowing.Run.{Run}
 use Rattle.propagation.specs.declared.passes.Outcome.{Outcome}
-use Rattle.sheet.specs.Sheets.{test_of}
+use Rattle.sheet.specs.Sheets.{Answer, test_of}
 use Rattle.propagation.specs.Runs.{Ended, settled, stopped, no_triple}
 use Rattle.propagation.specs.Narrowings.{end_of, ran_on, run_after, narrow_sheet_of}
 use Rattle.sheet.specs.Replies.{sheet_tests}
 use Rattle.sheet.proofs.Replies.{sheet_after_lem}
 use Rattle.listing.specs.Listings.{listing_of}
-use Rattle.listing.specs.Buffers.{written_told, length_after, size_in, stored_in, unless_refused, written_by, buffer_by, Writes}
-use Rattle.listing.specs.declared.writer.Written.{Written}
-use Rattle.listing.specs.declared.writer.Written.TheVariants.{Length, Refused}
+use Rattle.listing.specs.Buffers.{written_told, length_after, size_in, stored_in, unless_refused, written_by, buffer_by, Writes, Written}
+use Rattle.std.specs.Prelude.{Ok, Err}
 
-pub size_within : (bytes out : List ℕ) (n : ℕ) → size_in bytes out ≡ Length n → n ≤ length out
+pub size_within : (bytes out : List ℕ) (n : ℕ) → size_in bytes out ≡ Ok n → n ≤ length out
 unfolding size_in
 size_within bytes out n e = elim (le_or_lt (length bytes) (length out)) [
   | inl h ↦ let f : n ≡ length bytes = cc (rw (le-leb (length bytes) (length out) h) at e) in omega arith
@@ -42,7 +43,7 @@ run_kept : (run : Run) (out : List ℕ) → ((written_told (written_by run out))
 unfolding written_by buffer_by
 run_kept run out = go run.outcome
   where
-    go : (o : Outcome) → ((written_told (unless_refused o Refused (size_in (listing_of run) out))).number ≡ 0 → ⊥) → unless_refused o (λ _. out) (stored_in (listing_of run) out) ≡ out
+    go : (o : Outcome) → ((written_told (unless_refused o Err (size_in (listing_of run) out))).number ≡ 0 → ⊥) → unless_refused o (λ _. out) (stored_in (listing_of run) out) ≡ out
     go (Outcome.Settled p) = size_kept (listing_of run) out
     go (Outcome.NoTriple p k) = size_kept (listing_of run) out
     go (Outcome.Stopped p) = size_kept (listing_of run) out
@@ -58,10 +59,14 @@ run_told : (s : Sheet) (out : List ℕ) → written_told (written_by (narrow_she
 unfolding written_by narrow_sheet_of
 run_told s out =
     let bytes = listing_of (run_after (test_of s) s) in
-    ap (λ (a : Answer). written_told (unless_refused (run_after a s).outcome Refused (size_in bytes out))) (sheet_after_lem s) ∙
-    told_chain Answer.Refused (λ a. written_told (unless_refused (run_after a s).outcome Refused (size_in bytes out))) (λ _. refl) (sheet_tests s) ((leb (length bytes) (length out), refusal 13) ∷ []) Answer.Done (length bytes ∷ []) (ended (end_of s) bytes)
+    ap (λ (a : Answer). written_told (unless_refused (run_after a s).outcome Err (size_in bytes out))) (sheet_after_lem s) ∙
+    after_chain (λ (a : Answer). written_told (unless_refused (run_after a s).outcome Err (size_in bytes out))) (λ r. r) (sheet_tests s) ((leb (length bytes) (length out), refusal Reason.Short) ∷ []) (Ok tt) (length bytes ∷ []) (refusing bytes (sheet_tests s)) (λ _. ended (end_of s) bytes)
   where
-    ended : (e : Ended) (bytes : List ℕ) → written_told (unless_refused (ran_on s e).outcome Refused (size_in bytes out)) ≡ length_after [] bytes out
+    refusing : (bytes : List ℕ) (ts : List Test) → Refuses (λ (a : Answer). written_told (unless_refused (run_after a s).outcome Err (size_in bytes out))) (λ (r : Reply ℕ). r) ts
+    refusing bytes [] = tt
+    refusing bytes (t ∷ ts) = (refl, refusing bytes ts)
+
+    ended : (e : Ended) (bytes : List ℕ) → written_told (unless_refused (ran_on s e).outcome Err (size_in bytes out)) ≡ length_after [] bytes out
     ended (settled p box) bytes = size_told bytes out
     ended (stopped p box) bytes = size_told bytes out
     ended (no_triple p k) bytes = size_told bytes out

@@ -1,4 +1,3 @@
-pub mod Storing
 pub mod Counting
 pub mod Cells
 pub mod Delivering

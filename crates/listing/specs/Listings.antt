@@ -1,12 +1,12 @@
 -- 01's listing: the lines that the program prints for a run, with the text's tabs and line feeds. Assumes nothing.
-use Rattle.std.specs.Prelude.{ℕ, ◌+◌, List, [], ◌∷◌, ◌++◌}
+use Rattle.std.specs.Prelude.{ℕ, ◌+◌, List, [], ◌∷◌, ◌++◌, Ok, Err}
 use Rattle.arith.specs.declared.interval.Interval.{Interval}
 use Rattle.sheet.specs.declared.kept.Sheet.{Sheet}
-use Rattle.sheet.specs.declared.kept.Answer.{Answer}
 use Rattle.propagation.specs.declared.narrowing.Run.{Run}
 use Rattle.propagation.specs.declared.passes.Outcome.{Outcome}
 use Rattle.propagation.specs.declared.passes.Outcome.TheVariants.{Settled, NoTriple, Stopped, Refused}
-use Rattle.sheet.specs.Sheets.{used_cells}
+use Rattle.arith.specs.Refusals.{number}
+use Rattle.sheet.specs.Sheets.{Answer, used_cells}
 use Rattle.propagation.specs.Narrowings.{narrow_sheet_of}
 use Rattle.reader.specs.Lines.{tab, feed, cell_word}
 use Rattle.reader.specs.Digits.{decimal_of, hex_of}
@@ -52,7 +52,7 @@ unfoldable pub lines_of : Outcome → ℕ → List Interval → List ℕ
 lines_of (Settled p) width cells = worded settled_word p feed ++ cell_lines width 0 cells
 lines_of (NoTriple p k) width cells = pair_line none_word p k
 lines_of (Stopped p) width cells = worded stopped_word p feed ++ cell_lines width 0 cells
-lines_of (Refused r) width cells = pair_line refused_word r.number r.place
+lines_of (Refused r) width cells = pair_line refused_word (number r.reason) r.place
 
 -- the listing of a run: the cells in use are those of the sheet it leaves
 abbrev pub listing_of : Run → List ℕ
@@ -60,8 +60,8 @@ listing_of run = lines_of run.outcome run.sheet.width (used_cells run.sheet)
 
 -- ---- a text: the run of its sheet, or its refusal, whose place is the line
 abbrev pub run_for : Sheet → Answer → Run
-run_for s Answer.Done = narrow_sheet_of s
-run_for s (Answer.Refused r) = record { sheet = s; outcome = Refused r }
+run_for s (Ok u) = narrow_sheet_of s
+run_for s (Err r) = record { sheet = s; outcome = Refused r }
 
 -- the run of a text
 unfoldable pub run_of : List ℕ → Run

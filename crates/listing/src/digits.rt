@@ -1,76 +1,59 @@
-// Numbers as digits: decimal, and hexadecimal capitals by width.
-ghost use Rattle.std.specs.Prelude.{◌≡◌, ◌+◌, ◌^◌, ◌≤◌, ◌<◌};
-ghost use Rattle.reader.specs.Numbers.{digits_for};
+// Numbers as digits: decimal, and hexadecimal capitals by width. By hand, since std says what a `write!` wrote where it is Ok, and not that it is.
+ghost use Rattle.std.specs.Prelude.{◌≡◌, ◌+◌, ◌≤◌, ◌<◌, ◌++◌, length};
 ghost use Rattle.reader.specs.Digits.{digit_byte, digits_of, digit_count, decimal_of, hex_of};
-ghost use Rattle.listing.specs.Stores.{Wrote};
 
-use crate::store::put;
+use crate::lines::Lines;
+use reader::number::digits_for;
 
 // The byte of a digit.
+#[tactic(auto, unfolding(reader::specs::Digits::digit_byte))]
 fn digit_byte(d: u64) -> u8
     requires { d < 16 }
     ensures { result ≡ digit_byte d }
 {
     let x = d as u8;
-    if x < 10 {
-        return 48 + x;
-    }
-    55 + x
-}
-
-// The last k digits of n in a base.
-fn put_digits(buf: &mut [u8], at: usize, base: u64, k: usize, n: u64) -> usize
-    requires { (at + k < 2 ^ 32) × ((0 < base) × (base ≤ 16)) }
-    ensures { (Wrote (digits_of base k n) buf.old at buf.new result) × (result ≡ at + k) }
-{
-    let mut m = n;
-    let mut j = k;
-    while 0 < j {
-        j -= 1;
-        put(buf, at + j, digit_byte(m % base));
-        m = m / base;
-    }
-    at + k
+    if x < 10 { b'0' + x } else { b'A' - 10 + x }
 }
 
 // How many decimal digits a number has.
+#[tactic(auto, using(crate::proofs::Counting::count_from))]
 fn count_digits(n: u64) -> usize
     ensures { (result ≡ digit_count 19 n) × (result ≤ 20) }
 {
-    let mut m = n;
-    for j in 0..19usize {
-        if m < 10 {
-            return j + 1;
+    n.max(1).ilog10() as usize + 1
+}
+
+impl Lines {
+    // Puts the last k digits of n in a base, the highest first.
+    #[tactic(auto, unfolding(reader::specs::Digits::digits_of))]
+    fn put_digits(&mut self, base: u64, k: usize, n: u64)
+        requires { ((0 < base) × (base ≤ 16)) × (length self.old + k ≤ 4096) }
+        ensures text { self.new ≡ self.old ++ digits_of base k n }
+        ensures count { length self.new ≡ length self.old + k }
+    {
+        if 0 < k {
+            self.put_digits(base, k - 1, n / base);
+            self.put(digit_byte(n % base));
         }
-        m = m / 10;
     }
-    20
-}
 
-// A number in decimal.
-pub(crate) fn put_decimal(buf: &mut [u8], at: usize, n: u64) -> usize
-    requires { at + 20 < 2 ^ 32 }
-    ensures { (Wrote (decimal_of n) buf.old at buf.new result) × (result ≤ at + 20) }
-{
-    let k = count_digits(n);
-    put_digits(buf, at, 10, k, n)
-}
-
-// How many digits a pattern of the width has.
-fn pattern_digits(width: u64) -> usize
-    ensures { (result ≡ digits_for width) × (result ≤ 16) }
-{
-    if width == 32 {
-        return 8;
+    // Puts a number in decimal.
+    #[tactic(auto, unfolding(reader::specs::Digits::decimal_of))]
+    pub(crate) fn put_decimal(&mut self, n: u64)
+        requires { length self.old + 20 ≤ 4096 }
+        ensures text { self.new ≡ self.old ++ decimal_of n }
+        ensures most { length self.new ≤ length self.old + 20 }
+    {
+        self.put_digits(10, count_digits(n), n);
     }
-    16
-}
 
-// A pattern in hexadecimal.
-pub(crate) fn put_pattern(buf: &mut [u8], at: usize, width: u64, n: u64) -> usize
-    requires { at + 16 < 2 ^ 32 }
-    ensures { (Wrote (hex_of width n) buf.old at buf.new result) × (result ≤ at + 16) }
-{
-    let k = pattern_digits(width);
-    put_digits(buf, at, 16, k, n)
+    // Puts a pattern in hexadecimal.
+    #[tactic(auto, unfolding(reader::specs::Digits::hex_of))]
+    pub(crate) fn put_pattern(&mut self, width: u64, n: u64)
+        requires { length self.old + 16 ≤ 4096 }
+        ensures text { self.new ≡ self.old ++ hex_of width n }
+        ensures most { length self.new ≤ length self.old + 16 }
+    {
+        self.put_digits(16, digits_for(width), n);
+    }
 }

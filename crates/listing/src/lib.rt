@@ -4,5 +4,5 @@
 mod digits;
 pub mod from_text;
 mod lines;
-mod store;
+mod outcome;
 pub mod writer;

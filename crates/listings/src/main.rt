@@ -4,204 +4,178 @@
 mod records;
 
 use listing::from_text::list;
-use listing::writer::Written;
-use std::io::Stdout;
+use std::io;
+use std::io::{Stdout, Write};
 
 // The listing of a text.
-fn show(stdout: Stdout, text: &[u8]) {
-    let mut out = [0u8; 4096];
-    let written = list(text, &mut out);
-    if let Written::Length(m) = written {
-        let _ = stdout.write_all(&out[..m]);
+fn show(out: Stdout, text: &[u8]) -> io::Result<()> {
+    let mut listing = [0u8; 4096];
+    match list(text, &mut listing) {
+        Ok(n) => out.write_all(&listing[..n]),
+        Err(_) => Ok(()),
     }
 }
 
-// Stores bytes from a position on, as far as they fit, and returns the position after them.
-fn append(buf: &mut [u8], at: usize, s: &[u8]) -> usize {
-    if buf.len() <= at {
-        return at;
+// The listings of texts, one after the other.
+fn show_each(out: Stdout, texts: &[&str]) -> io::Result<()> {
+    for text in texts {
+        show(out, text.as_bytes())?;
     }
-    let room = buf.len() - at;
-    for i in 0..s.len() {
-        if room <= i {
-            return at + i;
-        }
-        buf[at + i] = s[i];
-    }
-    at + s.len()
+    Ok(())
 }
 
-// The listing of some first lines and others that come n times. The last test always holds: it is only the bound for the slice.
-fn show_many(stdout: Stdout, head: &[u8], lines: &[u8], n: usize) {
+// The listing of some first lines and others that come n times.
+fn show_many(out: Stdout, head: &str, lines: &str, n: usize) -> io::Result<()> {
     let mut text = [0u8; 8192];
-    let mut at = append(&mut text, 0, head);
+    let mut room = &mut text[..];
+    room.write_all(head.as_bytes())?;
     for _ in 0..n {
-        at = append(&mut text, at, lines);
+        room.write_all(lines.as_bytes())?;
     }
-    if at <= 8192 {
-        show(stdout, &text[..at]);
-    }
+    let left = room.len();
+    show(out, &text[..8192usize.saturating_sub(left)])
 }
 
 // 01's sheets: the whole listing with limit 1, and the two sums with limits 5 and 6; then width 32 with the largest limit; a cell and no record; a head alone.
-fn sheets(stdout: Stdout) {
+fn sheets(out: Stdout) -> io::Result<()> {
     show(
-        stdout,
+        out,
         b"sheet\t64\t1\ncell\tC630000000000000\tC330000000000000\ncell\t3FF0000000000000\t4630000000000000\ncell\t3FE0000000000000\t3FF8000000000000\nsum\t0\t1\t2\n",
-    );
+    )?;
     let two_sums =
-        b"cell\t0000000000000000\t000000000000000A\ncell\t0000000000000001\t0000000000000001\ncell\t0000000000000000\t000000000000000A\ncell\t0000000000000000\t0000000000000000\nsum\t0\t1\t2\nsum\t2\t3\t0\n";
-    show_many(stdout, b"sheet\t64\t5\n", two_sums, 1);
-    show_many(stdout, b"sheet\t64\t6\n", two_sums, 1);
-    show(
-        stdout,
-        b"sheet\t32\t65535\ncell\tFF7FFFFF\t7F7FFFFF\ncell\t3F800000\t3F800000\ncell\t3F800000\t3F800000\nsum\t0\t1\t2\n",
-    );
-    show(stdout, b"sheet\t32\t1\ncell\t80000000\t00000000\n");
-    show(stdout, b"sheet\t64\t1\n");
+        "cell\t0000000000000000\t000000000000000A\ncell\t0000000000000001\t0000000000000001\ncell\t0000000000000000\t000000000000000A\ncell\t0000000000000000\t0000000000000000\nsum\t0\t1\t2\nsum\t2\t3\t0\n";
+    show_many(out, "sheet\t64\t5\n", two_sums, 1)?;
+    show_many(out, "sheet\t64\t6\n", two_sums, 1)?;
+    show_each(
+        out,
+        &[
+            "sheet\t32\t65535\ncell\tFF7FFFFF\t7F7FFFFF\ncell\t3F800000\t3F800000\ncell\t3F800000\t3F800000\nsum\t0\t1\t2\n",
+            "sheet\t32\t1\ncell\t80000000\t00000000\n",
+            "sheet\t64\t1\n",
+        ],
+    )
 }
 
 // The whole listing with a diff and cell 1 mirrored; a neg without cell 0, which keeps its ends, and one with it; a record of each kind; the same at odds with limits 5 and 6, where at last the neg, which is record 1, has no solution.
-fn kinds(stdout: Stdout) {
+fn kinds(out: Stdout) -> io::Result<()> {
     show(
-        stdout,
+        out,
         b"sheet\t64\t10\ncell\tC630000000000000\tC330000000000000\ncell\tC630000000000000\tBFF0000000000000\ncell\t3FE0000000000000\t3FF8000000000000\ndiff\t0\t1\t2\n",
-    );
+    )?;
     let three =
-        b"sheet\t32\t10\ncell\t80000000\t40000000\ncell\tBF800000\t40000000\ncell\tC0400000\t3F000000\n";
-    show_many(stdout, three, b"neg\t1\t2\n", 1);
-    show_many(stdout, three, b"neg\t0\t2\n", 1);
+        "sheet\t32\t10\ncell\t80000000\t40000000\ncell\tBF800000\t40000000\ncell\tC0400000\t3F000000\n";
+    show_many(out, three, "neg\t1\t2\n", 1)?;
+    show_many(out, three, "neg\t0\t2\n", 1)?;
     show(
-        stdout,
+        out,
         b"sheet\t32\t10\ncell\t80000003\t00000003\ncell\t00000000\t0000000C\ncell\t80000004\t00000007\ncell\t80000005\t80000001\nsum\t2\t0\t1\ndiff\t0\t2\t3\nneg\t3\t0\n",
-    );
+    )?;
     let at_odds =
-        b"cell\t00000000\t0000000A\ncell\t8000000A\t00000000\ncell\t00000000\t0000000A\ncell\t00000001\t00000001\nsum\t0\t3\t2\nneg\t2\t1\ndiff\t3\t1\t2\n";
-    show_many(stdout, b"sheet\t32\t5\n", at_odds, 1);
-    show_many(stdout, b"sheet\t32\t6\n", at_odds, 1);
+        "cell\t00000000\t0000000A\ncell\t8000000A\t00000000\ncell\t00000000\t0000000A\ncell\t00000001\t00000001\nsum\t0\t3\t2\nneg\t2\t1\ndiff\t3\t1\t2\n";
+    show_many(out, "sheet\t32\t5\n", at_odds, 1)?;
+    show_many(out, "sheet\t32\t6\n", at_odds, 1)
 }
 
 // A cell named more than once. A stage at rest: what 1 absorbs from zero up, and its odd neighbour; where an a from 1 to 4 is absorbed. The doubling test from place 3 to the largest float, and one without a solution. A cell less itself; a cell less its half; all places alike, for each kind.
-fn repeated(stdout: Stdout) {
-    let rest = b"cell\t0000000000000000\t3FF0000000000000\nsum\t0\t1\t0\n";
+fn repeated(out: Stdout) -> io::Result<()> {
+    let rest = "cell\t0000000000000000\t3FF0000000000000\nsum\t0\t1\t0\n";
     show_many(
-        stdout,
-        b"sheet\t64\t10\ncell\t3FF0000000000000\t3FF0000000000000\n",
+        out,
+        "sheet\t64\t10\ncell\t3FF0000000000000\t3FF0000000000000\n",
         rest,
         1,
-    );
+    )?;
     show_many(
-        stdout,
-        b"sheet\t64\t10\ncell\t3FF0000000000001\t3FF0000000000001\n",
+        out,
+        "sheet\t64\t10\ncell\t3FF0000000000001\t3FF0000000000001\n",
         rest,
         1,
-    );
-    show(
-        stdout,
-        b"sheet\t64\t10\ncell\tBFF0000000000000\t4340000000000003\ncell\t3FF0000000000000\t4010000000000000\nsum\t0\t1\t0\n",
-    );
-    show(
-        stdout,
-        b"sheet\t32\t10\ncell\t00000000\t7F7FFFFF\ncell\t00000003\t7F7FFFFF\nsum\t0\t0\t1\n",
-    );
-    show(
-        stdout,
-        b"sheet\t32\t10\ncell\t00000001\t00000001\ncell\t00000003\t00000003\nsum\t0\t0\t1\n",
-    );
-    show(
-        stdout,
-        b"sheet\t32\t10\ncell\t3F800000\t40000000\ncell\tBF800000\t3F800000\ndiff\t0\t0\t1\n",
-    );
-    show(
-        stdout,
-        b"sheet\t32\t10\ncell\t3F800000\t40800000\ncell\t00000000\t3FC00000\ndiff\t0\t1\t1\n",
-    );
-    show(
-        stdout,
-        b"sheet\t32\t10\ncell\tBF800000\t3F800000\ncell\tBF800000\t3F800000\ncell\tBF800000\t3F800000\nsum\t0\t0\t0\ndiff\t1\t1\t1\nneg\t2\t2\n",
-    );
+    )?;
+    show_each(
+        out,
+        &[
+            "sheet\t64\t10\ncell\tBFF0000000000000\t4340000000000003\ncell\t3FF0000000000000\t4010000000000000\nsum\t0\t1\t0\n",
+            "sheet\t32\t10\ncell\t00000000\t7F7FFFFF\ncell\t00000003\t7F7FFFFF\nsum\t0\t0\t1\n",
+            "sheet\t32\t10\ncell\t00000001\t00000001\ncell\t00000003\t00000003\nsum\t0\t0\t1\n",
+            "sheet\t32\t10\ncell\t3F800000\t40000000\ncell\tBF800000\t3F800000\ndiff\t0\t0\t1\n",
+            "sheet\t32\t10\ncell\t3F800000\t40800000\ncell\t00000000\t3FC00000\ndiff\t0\t1\t1\n",
+            "sheet\t32\t10\ncell\tBF800000\t3F800000\ncell\tBF800000\t3F800000\ncell\tBF800000\t3F800000\nsum\t0\t0\t0\ndiff\t1\t1\t1\nneg\t2\t2\n",
+        ],
+    )
 }
 
 // Refusal 4: no head, no line feed, an unknown or misplaced record, fields too few, too many or malformed.
-fn malformed(stdout: Stdout) {
-    show(stdout, b"");
-    show(stdout, b"\n");
-    show(stdout, b"sheet\t64\t10");
-    show(stdout, b"cell\t00000000\t00000000\n");
-    show(stdout, b"sheet\t64\t010\n");
-    show(stdout, b"sheet\t64\t100000\n");
-    show(stdout, b"sheet\t64\t10\t\n");
-    show(stdout, b"sheet\t64\t10\nsheet\t64\t10\n");
-    show(stdout, b"sheet\t64\t10\nrow\t0\t1\n");
-    show(
-        stdout,
-        b"sheet\t64\t10\ncell\t3ff0000000000000\t4000000000000000\n",
-    );
-    show(stdout, b"sheet\t64\t10\ncell\t3FF00000\t40000000\n");
-    show(stdout, b"sheet\t64\t10\nsum\t0\t1\n");
-    show(stdout, b"sheet\t64\t10\ndiff\t0\t1\n");
-    show(stdout, b"sheet\t64\t10\nneg\t0\n");
-    show(stdout, b"sheet\t64\t10\nneg\t0\t1\t0\n");
+fn malformed(out: Stdout) -> io::Result<()> {
+    show_each(
+        out,
+        &[
+            "",
+            "\n",
+            "sheet\t64\t10",
+            "cell\t00000000\t00000000\n",
+            "sheet\t64\t010\n",
+            "sheet\t64\t100000\n",
+            "sheet\t64\t10\t\n",
+            "sheet\t64\t10\nsheet\t64\t10\n",
+            "sheet\t64\t10\nrow\t0\t1\n",
+            "sheet\t64\t10\ncell\t3ff0000000000000\t4000000000000000\n",
+            "sheet\t64\t10\ncell\t3FF00000\t40000000\n",
+            "sheet\t64\t10\nsum\t0\t1\n",
+            "sheet\t64\t10\ndiff\t0\t1\n",
+            "sheet\t64\t10\nneg\t0\n",
+            "sheet\t64\t10\nneg\t0\t1\t0\n",
+        ],
+    )
 }
 
 // Refusals 1, 7, 2, 3 and 5, this for each kind of record; the first bad line of several, and 4 before what else a line has.
-fn refused(stdout: Stdout) {
-    show(stdout, b"sheet\t16\t10\n");
-    show(stdout, b"sheet\t16\t0\n");
-    show(stdout, b"sheet\t64\t0\n");
-    show(stdout, b"sheet\t64\t65536\n");
-    show(
-        stdout,
-        b"sheet\t64\t10\ncell\t7FF0000000000000\t7FF0000000000000\n",
-    );
-    show(stdout, b"sheet\t32\t10\ncell\t00000000\tFF800000\n");
-    show(
-        stdout,
-        b"sheet\t64\t10\ncell\t3FF0000000000000\t0000000000000000\n",
-    );
-    show(
-        stdout,
-        b"sheet\t64\t10\ncell\t0000000000000000\t0000000000000000\nsum\t0\t1\t2\n",
-    );
-    let one = b"sheet\t32\t10\ncell\t00000000\t00000000\n";
-    show_many(stdout, one, b"diff\t0\t0\t1\n", 1);
-    show_many(stdout, one, b"neg\t0\t1\n", 1);
-    show(stdout, b"sheet\t64\t10\nsum\t0\t0\t0\ncell\t0\t0\n");
-    show(stdout, b"sheet\t16\t010\n");
+fn refused(out: Stdout) -> io::Result<()> {
+    show_each(
+        out,
+        &[
+            "sheet\t16\t10\n",
+            "sheet\t16\t0\n",
+            "sheet\t64\t0\n",
+            "sheet\t64\t65536\n",
+            "sheet\t64\t10\ncell\t7FF0000000000000\t7FF0000000000000\n",
+            "sheet\t32\t10\ncell\t00000000\tFF800000\n",
+            "sheet\t64\t10\ncell\t3FF0000000000000\t0000000000000000\n",
+            "sheet\t64\t10\ncell\t0000000000000000\t0000000000000000\nsum\t0\t1\t2\n",
+        ],
+    )?;
+    let one = "sheet\t32\t10\ncell\t00000000\t00000000\n";
+    show_many(out, one, "diff\t0\t0\t1\n", 1)?;
+    show_many(out, one, "neg\t0\t1\n", 1)?;
+    show_each(
+        out,
+        &[
+            "sheet\t64\t10\nsum\t0\t0\t0\ncell\t0\t0\n",
+            "sheet\t16\t010\n",
+        ],
+    )
 }
 
 // Text too long; 64 cells and a 65th; 128 records and a 129th, of sums alone and of mixed kinds, where it is a neg and then a diff.
-fn large(stdout: Stdout) {
-    let long = [10u8; 8193];
-    show(stdout, &long);
-    show_many(stdout, b"sheet\t32\t1\n", b"cell\t00000000\t3F800000\n", 64);
-    show_many(stdout, b"sheet\t32\t1\n", b"cell\t00000000\t3F800000\n", 65);
+fn large(out: Stdout) -> io::Result<()> {
+    show(out, &[10u8; 8193])?;
+    show_many(out, "sheet\t32\t1\n", "cell\t00000000\t3F800000\n", 64)?;
+    show_many(out, "sheet\t32\t1\n", "cell\t00000000\t3F800000\n", 65)?;
     let three =
-        b"sheet\t32\t9\ncell\t00000000\t3F800000\ncell\t00000000\t3F800000\ncell\t00000000\t3F800000\n";
-    show_many(stdout, three, b"sum\t0\t1\t2\n", 128);
-    show_many(stdout, three, b"sum\t0\t1\t2\n", 129);
-    show_many(stdout, three, b"diff\t2\t1\t0\nneg\t0\t1\n", 64);
-    show_many(
-        stdout,
-        three,
-        b"sum\t0\t1\t2\ndiff\t2\t1\t0\nneg\t0\t1\n",
-        43,
-    );
-    show_many(
-        stdout,
-        three,
-        b"neg\t0\t1\nsum\t0\t1\t2\ndiff\t2\t1\t0\n",
-        43,
-    );
+        "sheet\t32\t9\ncell\t00000000\t3F800000\ncell\t00000000\t3F800000\ncell\t00000000\t3F800000\n";
+    show_many(out, three, "sum\t0\t1\t2\n", 128)?;
+    show_many(out, three, "sum\t0\t1\t2\n", 129)?;
+    show_many(out, three, "diff\t2\t1\t0\nneg\t0\t1\n", 64)?;
+    show_many(out, three, "sum\t0\t1\t2\ndiff\t2\t1\t0\nneg\t0\t1\n", 43)?;
+    show_many(out, three, "neg\t0\t1\nsum\t0\t1\t2\ndiff\t2\t1\t0\n", 43)
 }
 
-fn main(rt: HostRuntime) {
-    let stdout = rt.stdout();
-    sheets(stdout);
-    kinds(stdout);
-    repeated(stdout);
-    malformed(stdout);
-    refused(stdout);
-    large(stdout);
-    records::read_records(stdout);
+fn main(rt: HostRuntime) -> io::Result<()> {
+    let out = rt.stdout();
+    sheets(out)?;
+    kinds(out)?;
+    repeated(out)?;
+    malformed(out)?;
+    refused(out)?;
+    large(out)?;
+    records::read_records(out)
 }

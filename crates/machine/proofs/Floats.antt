@@ -1,10 +1,15 @@
--- The machine's formats are the kit's two, and the kit's `+`, `<=` and `<` on the patterns of their numbers; the pattern with the other sign, without its sign, and in the form that is written. Rests on `ladder`'s Numbers and Standard.
-use mathlib.Core.Path.{◌≡◌, sym, ap, ◌∙◌, subst}
+-- The machine's formats are the kit's two, and the kit's `+`, `<=` and `<` on the patterns of their numbers;
+-- the pattern with the other sign, without its sign, and in the form that is written. Rests on `ladder`'s Numbers and Standard.
+use mathlib.Core.Path.{◌≡◌, refl, sym, ap, ap₂, ◌∙◌, subst}
 use mathlib.Core.Logic.{inl, inr}
 use mathlib.Core.Bool.{Bool, true, false, not, cond}
-use Prim.Native.Nat.{ℕ, ◌+◌, ◌-◌, ◌*◌, ◌≤◌, ◌<◌}
+use Prim.Native.Nat.{ℕ, ◌+◌, ◌-◌, ◌*◌, ◌%◌, ◌^◌, ◌≤◌, ◌<◌}
+use native.Mathlib.Nat.{mod-eq_of_lt, add-mod_right}
 use native.Mathlib.Omega.{arith}
-use lib.Dec.{T, leb, ltb, lit≤}
+use lib.Bits.{bit_xor, xor_self, xor_zero_l, xor_zero_r}
+use lib.Dec.{T, eqb, leb, ltb, lit≤}
+use lib.Pow.{pow_pos}
+use Rattle.std.proofs.lemmas.Nat.{xor_block}
 use lib.Ieee as I
 use lib.Ieee.{of_bits, to_bits, nan_bits, is_nan, add, lt, le}
 use borrow.Author.Tests.{lt-ltb, le-ltb, le-leb, leb-true, eq-eqb, ne_eqb}
@@ -15,21 +20,23 @@ use Rattle.ladder.proofs.Ordinals.{infinity_lt_sign, finite_low, finite_high, or
 use Rattle.ladder.proofs.Standard.{exponents, add_sum}
 use Rattle.ladder.proofs.Numbers.{finite_number, number_fits, number_bits, number_lt, number_le, number_add, number_sum}
 use Rattle.arith.specs.declared.format.Format.{Format}
-use Rattle.arith.specs.Formats.{binary, Sound, is_finite, ordinal, pattern}
+use Rattle.arith.specs.Binaries.{IsBinary}
+use Rattle.arith.specs.Formats.{binary, fits32, fits64, Sound, is_finite, ordinal, pattern}
 use Rattle.arith.specs.declared.interval.Interval.{Interval}
 use Rattle.arith.specs.Intervals.{ends_finite}
-use Rattle.arith.proofs.Formats.{sound}
 use Rattle.arith.proofs.Intervals.{ends_both}
 use Rattle.machine.specs.Floats.{machine, is_number, FitsWidth, Adds, Negates, unsigned}
 
 -- ---- the formats
--- the kit's format by its bits
-abbrev here : I.Format → Format
-here F = binary (frac F) (exponents F)
+-- the kit's format by its bits, where a word holds its patterns
+abbrev Fits : I.Format → Type 0
+Fits F = IsBinary (frac F) (exponents F) (L.sign (frac F) (exponents F)) (L.infinity (frac F) (exponents F))
+
+abbrev here : (F : I.Format) → Fits F → Format
+here F ok = binary (frac F) (exponents F) ok
 
 pub sound_machine : (wide : Bool) → Sound (machine wide)
-sound_machine true = sound 64
-sound_machine false = sound 32
+sound_machine wide = (machine wide).sound
 
 pub machine_some : (wide : Bool) → 0 < (machine wide).infinity
 unfolding L.infinity
@@ -42,11 +49,18 @@ unfolding L.infinity
 machine_more true = lit≤ tt
 machine_more false = lit≤ tt
 
-pub wide_is : (wide : Bool) → wide ≡ true → machine wide ≡ here I.binary64
-wide_is wide e = ap machine e
+-- a const parameter by its bits
+abbrev pub flag : ℕ → Bool
+flag w = not (eqb w 0)
 
-pub narrow_is : (wide : Bool) → wide ≡ false → machine wide ≡ here I.binary32
-narrow_is wide e = ap machine e
+flag_off : (w : ℕ) → w ≡ 0 → flag w ≡ false
+flag_off w e = ap not (eq-eqb w 0 e)
+
+pub wide_is : (w : ℕ) → (w ≡ 0 → ⊥) → machine (flag w) ≡ here I.binary64 fits64
+wide_is w n = ap (λ (b : Bool). machine (not b)) (ne_eqb w 0 n)
+
+pub narrow_is : (w : ℕ) → w ≡ 0 → machine (flag w) ≡ here I.binary32 fits32
+narrow_is w e = ap machine (flag_off w e)
 
 -- ---- finite patterns and numbers
 pub number_of : (F : Format) (p : ℕ) → is_finite F p ≡ true → is_number F p ≡ true
@@ -62,14 +76,14 @@ pub ends_numbers : (F : Format) (i : Interval) → ends_finite F i ≡ true → 
 ends_numbers F i h = let k = ends_both F i h in (number_of F i.low k.0, number_of F i.high k.1)
 
 -- ---- the kit's account, at a format that is the kit's
-module _ (F : I.Format) (G : Format) (g : G ≡ here F) where
-  number_at : (p : ℕ) → is_number G p ≡ true → is_number (here F) p ≡ true
+module _ (F : I.Format) (ok : Fits F) (G : Format) (g : G ≡ here F ok) where
+  number_at : (p : ℕ) → is_number G p ≡ true → is_number (here F ok) p ≡ true
   number_at p h = subst (λ (K : Format). is_number K p ≡ true) g h
 
-  finite_at : (p : ℕ) → is_finite G p ≡ true → is_finite (here F) p ≡ true
+  finite_at : (p : ℕ) → is_finite G p ≡ true → is_finite (here F ok) p ≡ true
   finite_at p h = subst (λ (K : Format). is_finite K p ≡ true) g h
 
-  fits : (p : ℕ) → is_number G p ≡ true → p < 2 * (here F).sign
+  fits : (p : ℕ) → is_number G p ≡ true → p < 2 * (here F ok).sign
   fits p h = number_fits (frac F) (exponents F) p (number_at p h)
 
   pub number : (p : ℕ) → is_number G p ≡ true → T (not (nan_bits F p))
@@ -84,7 +98,7 @@ module _ (F : I.Format) (G : Format) (g : G ≡ here F) where
       (record { number = number_sum F p q (number_at p P) (finite_at q Q); is = λ X. add_sum F p q X (finite_at q Q) })
 
   -- a test of two ordinals
-  tests : (test : ℕ → ℕ → Bool) (p q : ℕ) → test (ordinal (here F) p) (ordinal (here F) q) ≡ test (ordinal G p) (ordinal G q)
+  tests : (test : ℕ → ℕ → Bool) (p q : ℕ) → test (ordinal (here F ok) p) (ordinal (here F ok) q) ≡ test (ordinal G p) (ordinal G q)
   tests test p q = sym (ap (λ (K : Format). test (ordinal K p) (ordinal K q)) g)
 
   pub compares : (p q : ℕ) → is_number G p ≡ true → is_number G q ≡ true → le (of_bits F p) (of_bits F q) ≡ leb (ordinal G p) (ordinal G q)
@@ -93,13 +107,13 @@ module _ (F : I.Format) (G : Format) (g : G ≡ here F) where
   pub precedes : (p q : ℕ) → is_number G p ≡ true → is_number G q ≡ true → lt (of_bits F p) (of_bits F q) ≡ ltb (ordinal G p) (ordinal G q)
   precedes p q P Q = number_lt F p q (number_at p P) (number_at q Q) ∙ tests ltb p q
 
-  pub size_is : (p : ℕ) → unsigned (here F) p ≡ unsigned G p
-  size_is p = sym (ap (λ (K : Format). unsigned K p) g)
-
 -- ---- numbers fit the width
 pub fits_width : (wide : Bool) (p : ℕ) → is_number (machine wide) p ≡ true → FitsWidth wide p
 unfolding L.sign
-fits_width wide p h e = omega (arith, fits I.binary32 (machine wide) (narrow_is wide e) p h)
+fits_width wide p h e = omega (arith, fits I.binary32 fits32 (machine wide) (ap machine e) p h)
+
+pub fits_word : (w : ℕ) → w ≡ 0 → (p : ℕ) → is_number (machine (flag w)) p ≡ true → p < 2 ^ 32
+fits_word w e p h = fits_width (flag w) p h (flag_off w e)
 
 pub finite_width : (wide : Bool) (p : ℕ) → is_finite (machine wide) p ≡ true → FitsWidth wide p
 finite_width wide p h = fits_width wide p (number_of (machine wide) p h)
@@ -141,8 +155,37 @@ module _ (F : Format) (p : ℕ) (n : is_number F p ≡ true) where
     | inr l ↦ negates_low r l (simp (lt-ltb _ _ l) at h)
   ]
 
-pub negates : (F : I.Format) (G : Format) → G ≡ here F → (p r : ℕ) → is_number G p ≡ true → r ≡ cond (ltb p (here F).sign) (p + (here F).sign) (p - (here F).sign) → Negates G p r
-negates F G g p r n h = subst (λ (K : Format). Negates K p r) (sym g) (negates_here (here F) p (number_at F G g p n) r h)
+-- a power of two turned in a number below its double
+flipped : (k p : ℕ) → p < 2 * 2 ^ k → bit_xor p (2 ^ k) ≡ cond (ltb p (2 ^ k)) (p + 2 ^ k) (p - 2 ^ k)
+flipped k p l =
+    let one : 2 ^ k ≡ 1 * 2 ^ k + 0 = omega arith in
+    elim (le_or_lt (2 ^ k) p) [
+      | inl h ↦ let e : p ≡ 1 * 2 ^ k + (p - 2 ^ k) = omega arith in simp (le-ltb _ _ h) (ap₂ bit_xor e one ∙ xor_block k 1 1 (p - 2 ^ k) 0 (omega arith) (pow_pos k) ∙ ap₂ (λ (x y : ℕ). x * 2 ^ k + y) (xor_self 1) (xor_zero_r (p - 2 ^ k)) ∙ omega arith)
+      | inr h ↦ let e : p ≡ 0 * 2 ^ k + p = omega arith in simp (lt-ltb _ _ h) (ap₂ bit_xor e one ∙ xor_block k 0 1 p 0 h (pow_pos k) ∙ ap₂ (λ (x y : ℕ). x * 2 ^ k + y) (xor_zero_l 1) (xor_zero_r p) ∙ omega arith)
+    ]
+
+-- where G is known as F
+pub negated : (F G : Format) → Sound F → G ≡ F → (p : ℕ) → is_number F p ≡ true → Negates F p (bit_xor p G.sign)
+unfolding L.sign
+negated F G ok g p n = negates_here F p n _ (ap (bit_xor p) (ap (λ (K : Format). K.sign) g ∙ ok.sign) ∙ flipped (F.fraction + F.exponent) p (number_fits F.fraction F.exponent p n))
+
+-- ---- without the sign
+pub sign_some : (wide : Bool) → 0 < (machine wide).sign
+unfolding L.sign
+sign_some true = lit≤ tt
+sign_some false = lit≤ tt
+
+pub width_bound : (wide : Bool) (p : ℕ) → FitsWidth wide p → p < 2 ^ 64 → p < 2 * (machine wide).sign
+unfolding L.sign
+width_bound true p h l = l
+width_bound false p h l = h refl
+
+pub size_rest : (F G : Format) → G ≡ F → (p : ℕ) → p < 2 * F.sign → p % G.sign ≡ unsigned F p
+size_rest F G g p l =
+    ap (λ (K : Format). p % K.sign) g ∙ elim (le_or_lt F.sign p) [
+      | inl h ↦ let e : p ≡ (p - F.sign) + F.sign = omega arith in simp (le-ltb _ _ h) (ap (λ (n : ℕ). n % F.sign) e ∙ add-mod_right (p - F.sign) F.sign ∙ mod-eq_of_lt (omega arith))
+      | inr h ↦ simp (lt-ltb _ _ h) (mod-eq_of_lt h)
+    ]
 
 -- ---- as it is written, where G is known as F
 module _ (F G : Format) (g : G ≡ F) (p : ℕ) (ok : Sound F) (t : is_finite F p ≡ true) where

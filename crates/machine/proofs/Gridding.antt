@@ -7,7 +7,7 @@ use native.Mathlib.Nat.{add-div_right}
 use native.Mathlib.Omega.{arith}
 use lib.Dec.{leb, ltb}
 use lib.Pow.{pow_pos}
-use borrow.Author.Tests.{lt-ltb, le-ltb, ltb-true, leb-true, leb-false, not-true}
+use borrow.Author.Tests.{ltb-true, leb-true, leb-false, not-true}
 use Rattle.ladder.specs.Magnitude.{magnitude}
 use Rattle.ladder.specs.Ordinal as L
 use Rattle.ladder.specs.Solution.{Interval, In}
@@ -25,19 +25,12 @@ use Rattle.arith.proofs.Clamping.{field}
 use Rattle.machine.specs.declared.guess.Pair.{Pair}
 use Rattle.machine.specs.Floats.{ordinals, unsigned, HalfUlp, Adds, Negates}
 use Rattle.machine.specs.Shortcuts.{left_x, left_a, Gridded, Passes, over, under}
-use Rattle.machine.proofs.HalfUlps.{low_finite, size_low, size_high, size_lt}
+use Rattle.machine.proofs.HalfUlps.{low_finite, size_low, size_high}
 
 -- all of I lie m ordinals or more above zero, or below it
 data Apart (F : Format) (m : ℕ) (I : Interval) : Type 0 where
   above : L.sign F.fraction F.exponent + m ≤ I.low → Apart F m I
   below : I.high + m ≤ L.sign F.fraction F.exponent → Apart F m I
-
--- the lesser, as it is chosen
-pub chosen_min : (m n r : ℕ) → r ≡ cond (ltb m n) m n → r ≡ min m n
-chosen_min m n r e = elim (le_or_lt n m) [
-  | inl l ↦ let z : r ≡ n = simp (le-ltb _ _ l) at e in omega arith
-  | inr l ↦ let z : r ≡ m = simp (lt-ltb _ _ l) at e in omega arith
-]
 
 module _ (F : Format) (ok : Sound F) where
   abbrev f : ℕ
@@ -74,10 +67,6 @@ module _ (F : Format) (ok : Sound F) where
   from_minus m p I l n h i = below (omega (arith, ok.sign, ordinal_high F ok p l, size_high F ok p l, finite_fits F ok p n))
 
   -- ---- the step
-  pub size_chosen : (first : Bool) (p q r : ℕ) → r ≡ cond first p q → is_finite F p ≡ true → is_finite F q ≡ true → unsigned F r < F.infinity
-  size_chosen true p q r e P Q = rw e (size_lt F ok p P)
-  size_chosen false p q r e P Q = rw e (size_lt F ok q Q)
-
   module _ (p q : Pair) (p-finite : is_finite F p.high ≡ true) (q-finite : is_finite F q.high ≡ true) (plus minus u : ℕ) (h : HalfUlp F (min (unsigned F plus) (unsigned F minus) + 2 ^ F.fraction) u) where
     abbrev m : ℕ
     m = min (unsigned F plus) (unsigned F minus)

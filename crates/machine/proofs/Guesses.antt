@@ -58,13 +58,7 @@ module _ (F : Format) (ok : Sound F) where
   inner G m c d true l e h t i = rw i (inner_at F G m c e h (sym t))
   inner G m c d false l e h t i = rw i (one_inner l)
 
-  -- c has a number on each side, and both fit a word
-  pub inner_some : (c : ℕ) → Inner F c → 1 ≤ c
-  inner_some c n = elim (le_or_lt F.sign c) [
-    | inl l ↦ omega (arith, infinity_lt F ok, n.few)
-    | inr l ↦ omega (arith, size_low F ok c l, n.some)
-  ]
-
+  -- the number after c fits a word
   pub inner_fits : (c : ℕ) → Inner F c → c + 1 < 2 ^ 64
   inner_fits c n = elim (le_or_lt F.sign c) [
     | inl l ↦ omega (arith, size_high F ok c l, n.few, infinity_lt F ok, ok.word)
@@ -183,12 +177,12 @@ module _ (F : Format) (ok : Sound F) where
           q ≡ cond (not upto) o a →
           Adds F p q r →
           sure ≡ (t.sure || beq (not enough) (not upto)) →
-          Trims F x a b (record { low = p; high = q; sum = r; sure = sure })
-      trimmed enough upto sure g h p q r l is-enough is-upto gs hs k ps qs R is-sure =
+          sure ≡ true → Trims F x a b (record { low = p; high = q; sum = r; sure = sure })
+      trimmed enough upto sure g h p q r l is-enough is-upto gs hs k ps qs R is-sure e =
           let k' : Checks F (cond (not enough) a mx) (cond (not enough) b.low mb) t = rw (gs, hs) at k in
           let fp = chosen (λ (n : ℕ). is_finite F n ≡ true) (not enough) p t.y x ps k.finite X in
           let fq = chosen (λ (n : ℕ). is_finite F n ≡ true) (not upto) q o a qs (Y⁻.finite k.finite) A in
           record {
             summed = record { low = fp; high = fq; number = R.number; is = R.is fp };
-            trimmed = λ e. rw (ps, qs) (cut enough upto l is-enough is-upto k' (sym is-sure ∙ e));
+            trimmed = rw (ps, qs) (cut enough upto l is-enough is-upto k' (sym is-sure ∙ e));
           }

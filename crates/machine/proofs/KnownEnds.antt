@@ -105,11 +105,10 @@ module _ (F : Format) where
       shown true false false known m v p q r s t e = unsettled known v s (e ∙ ap (λ (t : Bool). cond t low m) (ap (λ (i : ℕ). leb (ordinal F i) (ordinal F low)) t ∙ sym q) ∙ t) nb
 
       -- as the code has it: s is k less u
-      pub known_end : (o s : ℕ) → Negates F u o → Adds F k o s → (short near level one known : Bool) (m v : ℕ) → short ≡ leb (ordinal F b) (ordinal F s) → near ≡ leb (ordinal F b) (ordinal F low)
-          → level ≡ leb (ordinal F k) (ordinal F b) → one ≡ (near || level) → known ≡ (one || not short) → m ≡ cond (not short) k b → v ≡ cond (leb (ordinal F m) (ordinal F low)) low m
+      pub known_end : (o s : ℕ) → Negates F u o → Adds F k o s → (short near level known : Bool) (m v : ℕ) → short ≡ leb (ordinal F b) (ordinal F s) → near ≡ leb (ordinal F b) (ordinal F low)
+          → level ≡ leb (ordinal F k) (ordinal F b) → known ≡ ((near || level) || not short) → m ≡ cond (not short) k b → v ≡ cond (leb (ordinal F m) (ordinal F low)) low m
           → KnownEnd F low k u b (record { b = v; known = known })
-      known_end o s d a short near level one known m v p q r i j =
-          shown short near level known m v (p ∙ ap (leb (ordinal F b)) (a.is nk ∙ ap (sum F (ordinal F k)) d.is)) q r (j ∙ ap (λ (t : Bool). t || not short) i)
+      known_end o s d a short near level known m v p = shown short near level known m v (p ∙ ap (leb (ordinal F b)) (a.is nk ∙ ap (sum F (ordinal F k)) d.is))
 
   -- ---- a sum that makes b
   -- what is clipped into an interval lies inside it
@@ -120,10 +119,10 @@ module _ (F : Format) where
       let b = lesser_is g i.high y q in
       record { low = omega arith; high = omega arith }
 
-  pub made : (i : Interval) (c b y s : ℕ) (no_more no_less r : Bool) → In (ordinals F i) (ordinal F y) → ordinal F s ≡ sum F (ordinal F y) (ordinal F c) → no_more ≡ leb (ordinal F s) (ordinal F b)
-      → no_less ≡ leb (ordinal F b) (ordinal F s) → r ≡ (no_more && no_less) → r ≡ true → Reached F i (record { low = c; high = c }) b
-  made i c b y s no_more no_less r w e p q d t =
-      let h = both no_more no_less (sym d ∙ t) in
+  pub made : (i : Interval) (c b y s : ℕ) (no_more no_less : Bool) → In (ordinals F i) (ordinal F y) → ordinal F s ≡ sum F (ordinal F y) (ordinal F c) → no_more ≡ leb (ordinal F s) (ordinal F b)
+      → no_less ≡ leb (ordinal F b) (ordinal F s) → (no_more && no_less) ≡ true → Reached F i (record { low = c; high = c }) b
+  made i c b y s no_more no_less w e p q t =
+      let h = both no_more no_less t in
       let l = leb-true (ordinal F s) (ordinal F b) (sym p ∙ h.0) in
       let g = leb-true (ordinal F b) (ordinal F s) (sym q ∙ h.1) in
       record { y = ordinal F y; z = ordinal F c; x_in = w; a_in = record { low = le_refl _; high = le_refl _ }; is = omega arith }

@@ -2,6 +2,7 @@
 use mathlib.Core.Path.{◌≡◌, refl, sym, ap, subst, ◌∙◌}
 use mathlib.Core.Logic.{◌⊎◌, inl, inr}
 use mathlib.Core.Bool.{Bool, true, false, ◌&&◌, true≢false}
+use Rattle.std.specs.Prelude.{Result, Ok, Err}
 use Prim.Native.Nat.{ℕ, ◌≤◌, ◌<◌}
 use native.Mathlib.Nat.{le_refl}
 use native.Mathlib.Omega.{arith}
@@ -17,6 +18,8 @@ use Rattle.ladder.proofs.Grid.{grid_low, grid_high}
 use Rattle.ladder.proofs.Trimming.{trimmed_never_x, trimmed_never_a, trimmed_none, trimmed_ends, trimmed_same}
 use Rattle.arith.specs.declared.format.Format.{Format}
 use Rattle.arith.specs.declared.interval.Interval as I
+use Rattle.arith.specs.declared.refusal.Reason.{Reason}
+use Rattle.arith.specs.declared.refusal.Refusal.{Refusal}
 use Rattle.arith.specs.declared.narrow.Narrowed.{Narrowed}
 use Rattle.arith.specs.Refusals.{refusal}
 use Rattle.arith.specs.Formats.{Sound, is_finite, Finite, ordinal, sum, mirrored}
@@ -27,7 +30,7 @@ use Rattle.arith.proofs.Refusing.{passed}
 use Rattle.machine.specs.declared.guess.Pair.{Pair}
 use Rattle.machine.specs.declared.«end».End.{End}
 use Rattle.machine.specs.Floats.{ordinals}
-use Rattle.machine.specs.Shortcuts.{Admitted, Trimmings, left_x, left_a, HasB, Gridded, Passes, over, under, Bounds, Corners, CornersOf, LowEnd, HighEnd, Reached, ends_of, left_of, Answers}
+use Rattle.machine.specs.Shortcuts.{Admitted, Trimmings, left_x, left_a, HasB, Gridded, Passes, over, under, Bounds, Corners, CornersOf, LowEnd, HighEnd, EndsOfB, Reached}
 use Rattle.machine.proofs.KnownEnds.{ends_of_lem}
 
 -- a test of two parts that fails
@@ -64,25 +67,25 @@ module _ (F : Format) (ok : Sound F) (x a b : I.Interval) where
 
   -- ---- the answer of finite intervals in order
   module _ (t : Admitted F x a b) where
-    in_format : (r : Narrowed) → r ≡ narrow_answer F (narrowing F (range_of F x) (range_of F a) (range_of F b)) → r ≡ narrow_in F x a b
+    in_format : (r : Result Narrowed Refusal) → r ≡ narrow_answer F (narrowing F (range_of F x) (range_of F a) (range_of F b)) → r ≡ narrow_in F x a b
     unfolding narrow_in narrow_finite
     in_format r h =
-        passed Narrowed.Refused 2 (ends_finite F x) _ t.finite.0
-        (passed Narrowed.Refused 2 (ends_finite F a) _ t.finite.1
-        (passed Narrowed.Refused 2 (ends_finite F b) _ t.finite.2
-        (passed Narrowed.Refused 3 (is_ordered (range_of F x)) _ t.ordered.0
-        (passed Narrowed.Refused 3 (is_ordered (range_of F a)) _ t.ordered.1
-        (passed Narrowed.Refused 3 (is_ordered (range_of F b)) _ t.ordered.2 h)))))
+        passed Reason.NotFinite (ends_finite F x) _ t.finite.0
+        (passed Reason.NotFinite (ends_finite F a) _ t.finite.1
+        (passed Reason.NotFinite (ends_finite F b) _ t.finite.2
+        (passed Reason.Reversed (is_ordered (range_of F x)) _ t.ordered.0
+        (passed Reason.Reversed (is_ordered (range_of F a)) _ t.ordered.1
+        (passed Reason.Reversed (is_ordered (range_of F b)) _ t.ordered.2 h)))))
 
-    pub none_answer : N.none ≡ narrowing F (range_of F x) (range_of F a) (range_of F b) → Narrowed.Refused (refusal 11) ≡ narrow_in F x a b
-    none_answer h = in_format (Narrowed.Refused (refusal 11)) (ap (narrow_answer F) h)
+    pub none_answer : N.none ≡ narrowing F (range_of F x) (range_of F a) (range_of F b) → Err (refusal Reason.NoTriple) ≡ narrow_in F x a b
+    none_answer h = in_format (Err (refusal Reason.NoTriple)) (ap (narrow_answer F) h)
 
-  module _ (p q : Pair) (m : Trimmings F x a b p q) (sp : p.sure ≡ true) (sq : q.sure ≡ true) where
+  module _ (p q : Pair) (m : Trimmings F x a b p q) where
     abbrev tp : S.Trimmed f e B X.low A.high (ordinal F p.low) (ordinal F p.high)
-    tp = m.first.trimmed sp
+    tp = m.first.trimmed
 
     abbrev tq : S.Trimmed f e B A.low X.high (ordinal F q.low) (ordinal F q.high)
-    tq = m.second.trimmed sq
+    tq = m.second.trimmed
 
     -- ---- there is no triple
     pub disorder_none : (leb (ordinal F p.low) (ordinal F q.high) && leb (ordinal F q.low) (ordinal F p.high)) ≡ false → N.none ≡ narrowing F (range_of F x) (range_of F a) (range_of F b)
@@ -120,6 +123,11 @@ module _ (F : Format) (b : I.Interval) (p q : Pair) (o : ordinal F b.low ≤ ord
   high_end_greatest : (t : End) → HighEnd F p q b t → (t.known ≡ false → Reached F (left_x p q) (left_a p q) b.high) → S.Greatest (HasB F (left_x p q) (left_a p q) b) (ordinal F t.b)
   high_end_greatest t l w = by_cases t.known l.known (λ h. rw (l.own h) (record { holds = reached_b b.high o (le_refl _) (w h); most = λ y v. v.solution.b_in.high }))
 
+  -- where a sum makes them, they are the ends of the b in a triple
+  pub ends_settled : (l h : End) → LowEnd F p q b l → HighEnd F p q b h → (l.known ≡ false → Reached F (left_x p q) (left_a p q) b.low) × (h.known ≡ false → Reached F (left_x p q) (left_a p q) b.high)
+      → EndsOfB F p q b (record { low = l.b; high = h.b })
+  ends_settled l h lo hi w = (ends_of_lem F (record { low = l.b; high = h.b }) lo.finite hi.finite, spans_of (low_end_least l lo w.0) (high_end_greatest h hi w.1))
+
 -- ---- what the trims take
 module _ (F : Format) (ok : Sound F) (x a b : I.Interval) (t : Admitted F x a b) where
   pub trim_takes : (h : I.Interval) → ends_finite F h ≡ true
@@ -140,14 +148,8 @@ module _ (F : Format) (ok : Sound F) (x a b : I.Interval) (t : Admitted F x a b)
     corners = c.1;
   }
 
-  pub ends_answer : Bounds F p q × Corners F b p q → (l h : End) → LowEnd F p q b l → HighEnd F p q b h
-      → (l.known ≡ false → Reached F (left_x p q) (left_a p q) b.low) × (h.known ≡ false → Reached F (left_x p q) (left_a p q) b.high)
-      → Answers (λ y z. narrow_in F y z b) x a (ends_of F p q l.b h.b)
-  ends_answer s l h lo hi w =
-      let d = order_of F b t.ordered.2 in
-      let B' : Interval = record { low = ordinal F l.b; high = ordinal F h.b } in
-      let e = corners_ends F ok x a b p q m s.0.first s.0.second s.0 s.1 B' (spans_of (low_end_least F b p q d l lo w.0) (high_end_greatest F b p q d h hi w.1)) in
-      in_format F ok x a b t (Narrowed.Ends (written F (ordinals F (left_x p q))) (written F (ordinals F (left_a p q))) (written F (record { low = ordinal F l.b; high = ordinal F h.b }))) (ap (narrow_answer F) e)
+  pub ends_answer : Bounds F p q × Corners F b p q → (i : I.Interval) → EndsOfB F p q b i → Ok (record { x = written F (ordinals F (left_x p q)); a = written F (ordinals F (left_a p q)); b = written F (ordinals F i) }) ≡ narrow_in F x a b
+  ends_answer s i w = in_format F ok x a b t _ (ap (narrow_answer F) (corners_ends F ok x a b p q m s.0 s.1 (ordinals F i) w.1))
 
   -- what is left is narrowed alike
   left_admitted : Bounds F p q → Admitted F (left_x p q) (left_a p q) b
@@ -157,7 +159,7 @@ module _ (F : Format) (ok : Sound F) (x a b : I.Interval) (t : Admitted F x a b)
     ordered = (le-leb _ _ o.x_order, le-leb _ _ o.a_order, t.ordered.2);
   }
 
-  pub left_answer : Bounds F p q → Answers (λ y z. narrow_in F y z b) x a (left_of p q b)
+  pub left_answer : Bounds F p q → narrow_in F (left_x p q) (left_a p q) b ≡ narrow_in F x a b
   left_answer o =
       sym (in_format F ok (left_x p q) (left_a p q) b (left_admitted o) _ refl)
-      ∙ in_format F ok x a b t _ (ap (narrow_answer F) (trimmed_same F.fraction F.exponent ok.some (ordinals F x) (ordinals F a) (ordinals F b) _ _ _ _ (m.first.trimmed o.first) (m.second.trimmed o.second)))
+      ∙ in_format F ok x a b t _ (ap (narrow_answer F) (trimmed_same F.fraction F.exponent ok.some (ordinals F x) (ordinals F a) (ordinals F b) _ _ _ _ m.first.trimmed m.second.trimmed))

@@ -5,11 +5,11 @@ use Rattle.ladder.specs.Ordinal as L
 use Rattle.ladder.specs.Solution as S
 use Rattle.arith.specs.declared.format.Format.{Format}
 use Rattle.arith.specs.declared.interval.Interval.{Interval}
-use Rattle.arith.specs.Formats.{binary, is_finite, ordinal, sum, mirrored}
+use Rattle.arith.specs.Formats.{binary, fits32, fits64, is_finite, ordinal, sum, mirrored}
 
 -- the format of the machine's floats
 abbrev pub machine : Bool → Format
-machine wide = cond wide (binary 52 11) (binary 23 8)
+machine wide = cond wide (binary 52 11 fits64) (binary 23 8 fits32)
 
 -- whether a pattern is a number's: finite or an infinity's
 abbrev pub is_number : Format → ℕ → Bool

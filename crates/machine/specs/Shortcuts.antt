@@ -1,21 +1,20 @@
 -- The narrowing by a few sums of the machine: each step by what holds of it where it is sure. For contracts inside the crate; no public one cites it. Assumes nothing.
-use Rattle.std.specs.Prelude.{◌≡◌, true, false, ℕ, ◌≤◌, ◌<◌}
+use Rattle.std.specs.Prelude.{◌≡◌, true, false, ℕ, ◌≤◌, ◌<◌, Result, Ok, Err}
 use Rattle.ladder.specs.Solution.{In}
 use Rattle.ladder.specs.Search as S
 use Rattle.ladder.specs.Narrowing as N
 use Rattle.arith.specs.declared.format.Format.{Format}
 use Rattle.arith.specs.declared.interval.Interval.{Interval}
+use Rattle.arith.specs.declared.refusal.Refusal.{Refusal}
 use Rattle.arith.specs.declared.narrow.Narrowed.{Narrowed}
-use Rattle.arith.specs.Refusals.{refusal}
 use Rattle.arith.specs.Formats.{is_finite, Finite, ordinal, sum, mirrored}
 use Rattle.arith.specs.Intervals.{range_of, ends_finite, is_ordered}
-use Rattle.arith.specs.Narrows.{narrowing, written}
+use Rattle.arith.specs.Narrows.{narrowing}
 use Rattle.machine.specs.declared.guess.Checked.{Checked}
 use Rattle.machine.specs.declared.guess.Pair.{Pair}
+use Rattle.machine.specs.declared.guess.Left.{Left}
 use Rattle.machine.specs.declared.«end».End.{End}
 use Rattle.machine.specs.declared.shortcut.Verdict.{Verdict}
-use Rattle.machine.specs.declared.shortcut.Shortcut.{Shortcut}
-use Rattle.machine.specs.declared.shortcut.Finding.{Finding}
 use Rattle.machine.specs.Floats.{is_number, ordinals}
 
 -- ---- the intervals
@@ -38,10 +37,10 @@ pub record Summed (F : Format) (t : Pair) : Type 0 where
   pub number : is_number F t.sum ≡ true
   pub is : ordinal F t.sum ≡ sum F (ordinal F t.low) (ordinal F t.high)
 
--- where sure, the operands from x on and up to a that make a sum inside b lie from t's low end on and up to its high end
+-- the operands from x on and up to a that make a sum inside b lie from t's low end on and up to its high end
 pub record Trims (F : Format) (x a : ℕ) (b : Interval) (t : Pair) : Type 0 where
   pub summed : Summed F t
-  pub trimmed : t.sure ≡ true → S.Trimmed F.fraction F.exponent (ordinals F b) (ordinal F x) (ordinal F a) (ordinal F t.low) (ordinal F t.high)
+  pub trimmed : S.Trimmed F.fraction F.exponent (ordinals F b) (ordinal F x) (ordinal F a) (ordinal F t.low) (ordinal F t.high)
 
 -- p trims x's low and a's high end, q a's low and x's high end
 pub record Trimmings (F : Format) (x a b : Interval) (p q : Pair) : Type 0 where
@@ -56,6 +55,10 @@ left_x p q = record { low = p.low; high = q.high }
 abbrev pub left_a : Pair → Pair → Interval
 left_a p q = record { low = q.low; high = p.high }
 
+-- both
+abbrev pub left_of : Pair → Pair → Left
+left_of p q = record { x = left_x p q; a = left_a p q }
+
 -- a number stands in a triple of x, a and b, as the sum
 abbrev pub HasB : Format → Interval → Interval → Interval → ℕ → Type 0
 HasB F x a b = N.HasB F.fraction F.exponent (ordinals F x) (ordinals F a) (ordinals F b)
@@ -69,10 +72,8 @@ pub data Passes (F : Format) (s u : ℕ) (b : Interval) : Type 0 where
   over : Finite F (ordinal F s) → ordinal F b.high < ordinal F s → sum F (ordinal F s) (mirrored F (ordinal F u)) < ordinal F b.low → Passes F s u b
   under : Finite F (ordinal F s) → ordinal F s < ordinal F b.low → ordinal F b.high < sum F (ordinal F s) (ordinal F u) → Passes F s u b
 
--- p and q are sure, and what they leave is in order
+-- what p and q leave is in order
 pub record Bounds (F : Format) (p q : Pair) : Type 0 where
-  pub first : p.sure ≡ true
-  pub second : q.sure ≡ true
   pub x_order : ordinal F p.low ≤ ordinal F q.high
   pub a_order : ordinal F q.low ≤ ordinal F p.high
 
@@ -91,12 +92,11 @@ pub record CornersOf (F : Format) (p q : Pair) (u : ℕ) (b : Interval) : Type 0
   pub bounds : Bounds F p q
   pub corners : Corners F b p q
 
--- sure bounds, in order, that are corners; or that there is no triple; or sure bounds in order; else nothing is said
+-- bounds, in order, that are corners; or that there is no triple; or bounds in order
 abbrev pub Judges : Format → Interval → Interval → Interval → Pair → Pair → Verdict → Type 0
 Judges F x a b p q Verdict.Corners = Bounds F p q × Corners F b p q
 Judges F x a b p q Verdict.None = N.none ≡ narrowing F (range_of F x) (range_of F a) (range_of F b)
 Judges F x a b p q Verdict.Bounds = Bounds F p q
-Judges F x a b p q Verdict.Unsure = Unit {0}
 
 -- ---- b's ends
 -- v is an end that sums show: the sum of the low ends, where that is not below b; or the sum k, where that is no more than b, or k less u falls short of b
@@ -135,21 +135,12 @@ pub record HighEnd (F : Format) (p q : Pair) (b : Interval) (t : End) : Type 0 w
   pub known : t.known ≡ true → S.Greatest (HasB F (left_x p q) (left_a p q) b) (ordinal F t.b)
   pub own : t.known ≡ false → ordinal F t.b ≡ ordinal F b.high
 
+-- i runs from the least to the greatest, its ends finite
+abbrev pub EndsOfB : Format → Pair → Pair → Interval → Interval → Type 0
+EndsOfB F p q b i = (ends_finite F i ≡ true) × N.Spans (HasB F (left_x p q) (left_a p q) b) (ordinals F i)
+
 -- ---- the whole
--- what p and q leave, and b from l to h, each end in its one pattern: the narrowing
-abbrev pub ends_of : Format → Pair → Pair → ℕ → ℕ → Shortcut
-ends_of F p q l h = record { x = written F (ordinals F (left_x p q)); a = written F (ordinals F (left_a p q)); b = written F (record { low = ordinal F l; high = ordinal F h }); finding = Finding.Ends }
-
--- what p and q leave, by itself
-abbrev pub left_of : Pair → Pair → Interval → Shortcut
-left_of p q b = record { x = left_x p q; a = left_a p q; b = b; finding = Finding.Left }
-
--- answer gives the narrowing for two operands; for x and a it is p, q and r, or that there is no triple, or the one for p and q
-abbrev pub Finds : (Interval → Interval → Narrowed) → Interval → Interval → Interval → Interval → Interval → Finding → Type 0
-Finds answer x a p q r Finding.Ends = Narrowed.Ends p q r ≡ answer x a
-Finds answer x a p q r Finding.None = Narrowed.Refused (refusal 11) ≡ answer x a
-Finds answer x a p q r Finding.Left = answer p q ≡ answer x a
-
--- what a shortcut says of x and a
-abbrev pub Answers : (Interval → Interval → Narrowed) → Interval → Interval → Shortcut → Type 0
-Answers answer x a s = Finds answer x a s.x s.a s.b s.finding
+-- what a shortcut says of x and a, where answer gives the narrowing for two operands: the one for them, or what is left of them, with the same one
+abbrev pub Answers : (Interval → Interval → Result Narrowed Refusal) → Interval → Interval → Result (Result Narrowed Refusal) Left → Type 0
+Answers answer x a (Ok r) = r ≡ answer x a
+Answers answer x a (Err l) = answer l.x l.a ≡ answer x a

@@ -3,7 +3,7 @@ ghost use Rattle.std.specs.Prelude.{◌≡◌, true, ◌-◌, ◌^◌, ◌≤◌
 ghost use Rattle.arith.specs.Formats.{is_finite};
 ghost use Rattle.machine.specs.Floats.{machine, HalfUlp};
 
-use crate::float::{choose, format_at, size};
+use crate::float::{format_at, size};
 
 // Half an ulp of a number with a small exponent field: a subnormal one.
 fn half_ulp_small(field: u64) -> u64
@@ -17,11 +17,11 @@ fn half_ulp_small(field: u64) -> u64
 }
 
 // Half an ulp of m.
-pub(crate) fn half_ulp(wide: bool, m: u64) -> u64
-    requires { m < (machine wide).sign }
-    ensures { HalfUlp (machine wide) m result }
+pub(crate) fn half_ulp<const WIDE: bool>(m: u64) -> u64
+    requires { m < (machine WIDE).sign }
+    ensures { HalfUlp (machine WIDE) m result }
 {
-    let format = format_at(wide);
+    let format = format_at::<WIDE>();
     let fraction = format.fraction;
     let field = m >> fraction;
     if field < fraction + 2 {
@@ -31,14 +31,14 @@ pub(crate) fn half_ulp(wide: bool, m: u64) -> u64
 }
 
 // Half the gap between a finite number and the one below it.
-pub(crate) fn half_gap_below(wide: bool, q: u64) -> u64
-    requires { is_finite (machine wide) q ≡ true }
-    ensures { is_finite (machine wide) result ≡ true }
+pub(crate) fn half_gap_below<const WIDE: bool>(q: u64) -> u64
+    requires { is_finite (machine WIDE) q ≡ true }
+    ensures { is_finite (machine WIDE) result ≡ true }
 {
-    let format = format_at(wide);
-    let above = size(wide, q) + choose(q < format.sign, 0, 1);
+    let format = format_at::<WIDE>();
+    let above = size::<WIDE>(q) + u64::from(q >= format.sign);
     if above == 0 {
         return 0;
     }
-    half_ulp(wide, above - 1)
+    half_ulp::<WIDE>(above - 1)
 }

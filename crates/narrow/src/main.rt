@@ -9,7 +9,6 @@ ghost use Rattle.std.specs.Io.KnownBytes.{Consumes, IsAtEnd, ReadConsumes};
 
 use failure::fail;
 use listing::from_text::list;
-use listing::writer::Written;
 use std::env::{Env, FillError};
 use std::io;
 use std::io::{Read, Stderr, Stdout};
@@ -22,7 +21,7 @@ fn read_part<R: Read>(input: &mut R, text: &mut [u8]) -> io::Result<usize>
     input.read(text)
 }
 
-// The input to its end, or as much of it as there is room for.
+// The input to its end, or as much of it as there is room for. The loop is written out: std's `read_to_end` stores on the heap.
 fn read_input<R: Read>(input: &mut R, text: &mut [u8]) -> io::Result<usize>
     ensures bound { ReadsAtMost result text.new }
     ensures bytes { IfOk result (λ n. Consumes (R.remaining input.old) (R.remaining input.new) (take n text.new)) }
@@ -42,33 +41,28 @@ fn read_input<R: Read>(input: &mut R, text: &mut [u8]) -> io::Result<usize>
 // Prints the listing of a text. 4,096 bytes hold the longest.
 fn print_listing(stdout: Stdout, stderr: Stderr, text: &[u8]) {
     let mut out = [0u8; 4096];
-    let written = list(text, &mut out);
-    if let Written::Length(m) = written {
-        if let Err(error) = stdout.write_all(&out[..m]) {
-            fail(stderr, "narrow: standard output", error);
-        }
+    if let Ok(n) = list(text, &mut out)
+        && let Err(error) = stdout.write_all(&out[..n])
+    {
+        fail(stderr, "narrow: standard output", error);
     }
 }
 
 // Whether there is an argument after the program's name.
 fn has_argument(env: &impl Env) -> bool {
     let mut start = [0u8; 1];
-    match env.arg(1, &mut start) {
-        Err(FillError::NotPresent) => false,
-        _ => true,
-    }
+    !matches!(env.arg(1, &mut start), Err(FillError::NotPresent))
 }
 
 // One byte more than the longest text is room enough to refuse a longer one.
 fn main(rt: HostRuntime) {
     let stderr = rt.stderr();
     if has_argument(&rt) {
-        let _ = stderr.write_all(b"usage: narrow <sheet\n");
+        let _ = println!(stderr; "usage: narrow <sheet");
         return;
     }
     let mut text = [0u8; 8193];
-    let input = read_input(&mut rt.stdin(), &mut text);
-    match input {
+    match read_input(&mut rt.stdin(), &mut text) {
         Ok(n) => print_listing(rt.stdout(), stderr, &text[..n]),
         Err(error) => fail(stderr, "narrow: standard input", error),
     }

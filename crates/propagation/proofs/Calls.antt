@@ -1,12 +1,13 @@
 -- What a call promises, once for kept sheets and lent lists: from its outcome and its cells, which are those of its test and its run, follows all the rest. And no call widens its box.
 -- Assumes nothing.
+use Rattle.std.specs.Prelude.{Ok, Err}
 use mathlib.Core.Path.{◌≡◌, refl, ap, ◌∙◌}
 use mathlib.Core.List.{List}
 use Prim.Native.Nat.{ℕ}
 use lib.ListN.{length}
 use Rattle.arith.specs.declared.interval.Interval.{Interval}
 use Rattle.arith.specs.declared.refusal.Refusal.{Refusal}
-use Rattle.sheet.specs.declared.kept.Answer.{Answer}
+use Rattle.sheet.specs.Sheets.{Answer}
 use Rattle.sheet.specs.Boxes.{Box, IsBox, Contains}
 use Rattle.sheet.specs.Cells.{fraction_of, exponent_of, rules_of, box_of, cells_of}
 use Rattle.sheet.proofs.Tested.{tested}
@@ -24,16 +25,16 @@ use Rattle.propagation.proofs.Started.{first_box, first_names}
 
 -- ---- by 01's numbers
 number_after_lem : (t : Answer) (e : Ended) → outcome_number (outcome_after t e) ≡ number_after t e
-number_after_lem Answer.Done (settled p box) = refl
-number_after_lem Answer.Done (stopped p box) = refl
-number_after_lem Answer.Done (no_triple p k) = refl
-number_after_lem (Answer.Refused r) e = refl
+number_after_lem (Ok u) (settled p box) = refl
+number_after_lem (Ok u) (stopped p box) = refl
+number_after_lem (Ok u) (no_triple p k) = refl
+number_after_lem (Err r) e = refl
 
 values_after_lem : (t : Answer) (e : Ended) → outcome_values (outcome_after t e) ≡ values_after t e
-values_after_lem Answer.Done (settled p box) = refl
-values_after_lem Answer.Done (stopped p box) = refl
-values_after_lem Answer.Done (no_triple p k) = refl
-values_after_lem (Answer.Refused r) e = refl
+values_after_lem (Ok u) (settled p box) = refl
+values_after_lem (Ok u) (stopped p box) = refl
+values_after_lem (Ok u) (no_triple p k) = refl
+values_after_lem (Err r) e = refl
 
 -- every number but 0 and 12 leaves what there was
 pub left_by_lem : {A : Type 0} (make : Box → A) (old : A) (e : Ended) → (outcome_number (outcome_by e) ≡ 0 → ⊥) → (outcome_number (outcome_by e) ≡ 12 → ⊥) → left_by make old e ≡ old
@@ -42,8 +43,8 @@ left_by_lem make old (stopped p box) a b = absurd (b refl)
 left_by_lem make old (no_triple p k) a b = refl
 
 left_after : (t : Answer) (width : ℕ) (cells : List Interval) (e : Ended) → (outcome_number (outcome_after t e) ≡ 0 → ⊥) → (outcome_number (outcome_after t e) ≡ 12 → ⊥) → cells_after t width cells e ≡ cells
-left_after Answer.Done width cells e = left_by_lem (cells_of width) cells e
-left_after (Answer.Refused r) width cells e = λ a b. refl
+left_after (Ok u) width cells e = left_by_lem (cells_of width) cells e
+left_after (Err r) width cells e = λ a b. refl
 
 -- ---- the box of the cells that a run leaves
 left_box :
@@ -57,18 +58,18 @@ left_box width n cells (no_triple p k) b = refl
 pub record Answered (c : Call) : Type 0 where
   pub outcome : c.outcome ≡ outcome_after (test_on c) (end_on c)
   pub after : c.after ≡ cells_after (test_on c) c.problem.width c.problem.cells (end_on c)
-  pub counted : test_on c ≡ Answer.Done → length c.problem.cells ≡ c.problem.cell_count
+  pub counted : test_on c ≡ Ok tt → length c.problem.cells ≡ c.problem.cell_count
 
 pub answered : (c : Call) → Narrows c → Answered c
 answered c h = record { outcome = h.outcome; after = h.after; counted = h.counted }
 
 module _ (c : Call) (h : Answered c) where
   -- refused
-  pub call_refused : (r : Refusal) → test_on c ≡ Answer.Refused r → (c.outcome ≡ Refused r) × (c.after ≡ c.problem.cells)
+  pub call_refused : (r : Refusal) → test_on c ≡ Err r → (c.outcome ≡ Refused r) × (c.after ≡ c.problem.cells)
   call_refused r t = (h.outcome ∙ ap (λ (a : Answer). outcome_after a (end_on c)) t, h.after ∙ ap (λ (a : Answer). cells_after a c.problem.width c.problem.cells (end_on c)) t)
 
   -- let pass
-  module _ (t : test_on c ≡ Answer.Done) where
+  module _ (t : test_on c ≡ Ok tt) where
     pub call_ran : c.outcome ≡ outcome_by (end_on c)
     call_ran = h.outcome ∙ ap (λ (a : Answer). outcome_after a (end_on c)) t
 
@@ -93,8 +94,8 @@ module _ (c : Call) (h : Answered c) where
   call_demand3 = go (test_on c) refl
     where
       go : (a : Answer) → test_on c ≡ a → Demand3 (fraction_of c.problem.width) (exponent_of c.problem.width) c.problem.records (box_before c) (box_after c) c.outcome
-      go Answer.Done t = rw (call_ran t, call_box t) (run_demand3 (fraction_of c.problem.width) (exponent_of c.problem.width) c.problem.records c.limit (box_before c) (first_is t) (call_names t))
-      go (Answer.Refused r) t = rw (call_refused r t).0 tt
+      go (Ok u) t = rw (call_ran t, call_box t) (run_demand3 (fraction_of c.problem.width) (exponent_of c.problem.width) c.problem.records c.limit (box_before c) (first_is t) (call_names t))
+      go (Err r) t = rw (call_refused r t).0 tt
 
   -- all that it promises
   pub narrows : Narrows c
@@ -119,5 +120,5 @@ call_inside c h = go (test_on c) refl
     by_end (no_triple p k) w = contains_self (box_before c)
 
     go : (a : Answer) → test_on c ≡ a → Contains (box_before c) (box_after c)
-    go Answer.Done t = rw (call_box c h t) (by_end (end_on c) (run_inside (rules_of c.problem.width) c.problem.records c.limit (box_before c)))
-    go (Answer.Refused q) t = rw (call_refused c h q t).1 (contains_self (box_before c))
+    go (Ok u) t = rw (call_box c h t) (by_end (end_on c) (run_inside (rules_of c.problem.width) c.problem.records c.limit (box_before c)))
+    go (Err q) t = rw (call_refused c h q t).1 (contains_self (box_before c))

@@ -1,31 +1,29 @@
--- Two lists of cells compared one cell after the other.
--- Assumes nothing.
-use mathlib.Core.Path.{◌≡◌, sym, ap, ◌∙◌}
-use mathlib.Core.Bool.{true, false}
+-- What `==` answers of two lists of cells. Assumes nothing.
+use mathlib.Core.Path.{◌≡◌, refl}
+use mathlib.Core.Bool.{Bool, true, false, ◌&&◌}
 use mathlib.Core.List.{List}
-use Prim.Native.Nat.{ℕ, ◌<◌, ◌≤◌}
-use native.Mathlib.Omega.{arith}
-use lib.ListN.{length, get_or, take}
-use lib.Seq.{get_or-take, ext_get_or, length-take-le}
+use lib.Dec.{eqb}
+use lib.Pointwise.{pointwise}
+use Rattle.std.specs.Bool.{Decides}
+use Rattle.std.proofs.lemmas.Bool.Decides.{Decides-eqb}
+use Rattle.std.proofs.lemmas.Slice.Eq.{slice_eq-Decides}
 use Rattle.arith.specs.declared.interval.Interval.{Interval}
-use Rattle.sheet.specs.Sheets.{no_cell}
 use Rattle.propagation.specs.Loops.{Compares}
 
-pub same_ends : {u v : Interval} → u.low ≡ v.low → u.high ≡ v.high → u ≡ v
-same_ends l h = λ i. record { low = l i; high = h i }
+abbrev same_ends : Interval → Interval → Bool
+same_ends I J = eqb I.low J.low && eqb I.high J.high
 
-module _ (p q : List Interval) (n : ℕ) where
-  pub differ : (i : ℕ) → i < n → (get_or p i no_cell ≡ get_or q i no_cell → ⊥) → Compares false (take n p) (take n q)
-  differ i lt ne = record {
-    same = λ e. absurd (let z : ◌≡◌ {A = ℕ} 0 1 = cc in omega arith);
-    differ = λ t e. ne (sym (get_or-take n p i no_cell lt) ∙ ap (λ (l : List Interval). get_or l i no_cell) e ∙ get_or-take n q i no_cell lt);
-  }
+ends_decide : (I J : Interval) → Decides (same_ends I J) (I ≡ J)
+ends_decide I J = (λ t. go (eqb I.low J.low) (eqb I.high J.high) (Decides-eqb I.low J.low).0 (Decides-eqb I.high J.high).0 t, λ e. rw e both)
+  where
+    go : (s t : Bool) → (s ≡ true → I.low ≡ J.low) → (t ≡ true → I.high ≡ J.high) → s && t ≡ true → I ≡ J
+    go true t l h e = let low = l refl in let high = h e in λ i. record { low = low i; high = high i }
+    go false t l h e = absurd cc
 
-  pub agree : n ≤ length p → n ≤ length q → ((j : ℕ) → j < n → get_or p j no_cell ≡ get_or q j no_cell) → Compares true (take n p) (take n q)
-  agree lp lq f =
-      let ep = length-take-le n p lp in
-      let eq = length-take-le n q lq in
-      record {
-        same = λ t. ext_get_or no_cell (take n p) (take n q) (ep ∙ sym eq) (λ j l. let h : j < n = omega arith in get_or-take n p j no_cell h ∙ f j h ∙ sym (get_or-take n q j no_cell h));
-        differ = λ t. absurd (let z : ◌≡◌ {A = ℕ} 0 1 = cc in omega arith);
-      }
+    both : same_ends J J ≡ true
+    both = rw ((Decides-eqb J.low J.low).1 refl, (Decides-eqb J.high J.high).1 refl)
+
+pub compares : (p q : List Interval) (t : Bool) → t ≡ pointwise same_ends p q → Compares t p q
+compares p q t e =
+    let d = slice_eq-Decides ends_decide p q t e in
+    record { same = d.0; differ = λ f h. let g = d.1 h in cc }

@@ -1,38 +1,36 @@
 -- The answer of narrowing a kept sheet, from how its run ended, and what it promises.
 -- Assumes nothing.
-use mathlib.Core.Path.{◌≡◌, refl, ap, ap₂, ◌∙◌}
+use Rattle.std.specs.Prelude.{Ok, Err}
+use mathlib.Core.Path.{◌≡◌, refl, sym, ap, ap₂, ◌∙◌}
 use Prim.Native.Nat.{ℕ}
-use native.Mathlib.Omega.{arith}
 use lib.ListN.{length, length-map}
+use Rattle.arith.specs.declared.refusal.Refusal.{Refusal}
 use Rattle.sheet.specs.declared.kept.Sheet.{Sheet}
-use Rattle.sheet.specs.declared.kept.Answer.{Answer}
+use Rattle.sheet.specs.declared.kept.Kept.{Kept}
 use Rattle.sheet.specs.Boxes.{Box}
 use Rattle.sheet.specs.Cells.{rules_of, box_of, cells_of}
-use Rattle.sheet.specs.Sheets.{places, used_cells, used_records, tidied, with_cells, test_of}
+use Rattle.sheet.specs.Sheets.{Answer, places, used_cells, used_records, tidied, with_cells, test_of, accept_of}
+use Rattle.sheet.proofs.Answers.{accept_answer, accept_sheet}
 use Rattle.sheet.proofs.Tidied.{cells_counted, tidied_records}
 use Rattle.propagation.specs.declared.passes.Outcome.{Outcome}
-use Rattle.propagation.specs.declared.passes.Outcome.TheVariants.{NoTriple}
+use Rattle.propagation.specs.declared.passes.Outcome.TheVariants.{NoTriple, Refused}
 use Rattle.propagation.specs.declared.passes.Halted.{Halted}
 use Rattle.propagation.specs.declared.narrowing.Run.{Run}
 use Rattle.propagation.specs.Runs.{Ended, settled, stopped, no_triple, left_by}
 use Rattle.propagation.specs.Calls.{kept_call, outcome_number, outcome_after, cells_after}
-use Rattle.propagation.specs.Loops.{EndsAs}
+use Rattle.propagation.specs.Loops.{Ready, EndsAs}
 use Rattle.propagation.specs.Narrowings.{end_of, with_box, ran_on, run_after, narrow_sheet_of, NarrowsSheet}
 use Rattle.propagation.specs.Planning.{InsideOrFails}
+use Rattle.propagation.proofs.Started.{tidied_ready, tidied_end}
 use Rattle.propagation.proofs.Shrinking.{run_inside}
 use Rattle.propagation.proofs.Places.{places_used}
 use Rattle.propagation.proofs.Calls.{left_by_lem, Answered, narrows}
 
--- ---- the ways out of `finish`
+-- ---- the way out of `finish` with a box
 module _ (s t : Sheet) (h : Halted) (q : t ≡ tidied s) where
   kept : (box : Box) → h.cells ≡ places t.width t.cell_count box → with_cells t h.cells ≡ with_box s box
   unfolding tidied
   kept box c = ap₂ with_cells q (c ∙ ap (λ (u : Sheet). places u.width u.cell_count box) q)
-
-  pub finish_none : (e : Ended) → EndsAs t h e → (p k : ℕ) → h.outcome ≡ NoTriple p k → ◌≡◌ {A = Run} (record { sheet = s; outcome = h.outcome }) (ran_on s e)
-  finish_none (no_triple n j) m p k o = ap (λ (v : Outcome). record { sheet = s; outcome = v }) m
-  finish_none (settled n box) m p k o = absurd (let y = m.0 in let z : ◌≡◌ {A = ℕ} 0 1 = cc in omega arith)
-  finish_none (stopped n box) m p k o = absurd (let y = m.0 in let z : ◌≡◌ {A = ℕ} 0 1 = cc in omega arith)
 
   pub finish_box : (e : Ended) → EndsAs t h e → ((p k : ℕ) → h.outcome ≡ NoTriple p k → ⊥) → ◌≡◌ {A = Run} (record { sheet = with_cells t h.cells; outcome = h.outcome }) (ran_on s e)
   finish_box (settled n box) m o = ap₂ (λ (u : Sheet) (v : Outcome). record { sheet = u; outcome = v }) (kept box m.1) m.0
@@ -51,16 +49,16 @@ used_by s (no_triple p k) n w = refl
 -- ---- the answer, by the sheet's test
 module _ (s : Sheet) (long : length s.cells ≡ 64) where
   outcome_is : (a : Answer) → (run_after a s).outcome ≡ outcome_after a (end_of s)
-  outcome_is Answer.Done = refl
-  outcome_is (Answer.Refused r) = refl
+  outcome_is (Ok u) = refl
+  outcome_is (Err r) = refl
 
   cells_are : (a : Answer) → test_of s ≡ a → used_cells (run_after a s).sheet ≡ cells_after a s.width (used_cells s) (end_of s)
-  cells_are Answer.Done t = used_by s (end_of s) (cells_counted s t long) (run_inside (rules_of s.width) (used_records s) s.limit (box_of s.width (used_cells s)))
-  cells_are (Answer.Refused r) t = refl
+  cells_are (Ok u) t = used_by s (end_of s) (cells_counted s t long) (run_inside (rules_of s.width) (used_records s) s.limit (box_of s.width (used_cells s)))
+  cells_are (Err r) t = refl
 
   sheet_left : (a : Answer) → (outcome_number (run_after a s).outcome ≡ 0 → ⊥) → (outcome_number (run_after a s).outcome ≡ 12 → ⊥) → (run_after a s).sheet ≡ s
-  sheet_left Answer.Done = left_by_lem (with_box s) s (end_of s)
-  sheet_left (Answer.Refused r) = λ p q. refl
+  sheet_left (Ok u) = left_by_lem (with_box s) s (end_of s)
+  sheet_left (Err r) = λ p q. refl
 
   -- the promise
   pub sheet_narrows : (r : Run) → r ≡ narrow_sheet_of s → NarrowsSheet s r
@@ -78,9 +76,35 @@ module _ (s : Sheet) (long : length s.cells ≡ 64) where
         counted = λ t. cells_counted s t long;
       }
 
+-- ---- the ways out of `narrow_sheet`, where accepting gave k
+module _ (s : Sheet) {k : Kept} (e : k ≡ accept_of s) where
+  answer_is : k.answer ≡ test_of s
+  answer_is = ap (λ (l : Kept). l.answer) e ∙ accept_answer s
+
+  pub refused_narrows : {r : Refusal} → length s.cells ≡ 64 → k.answer ≡ Err r → NarrowsSheet s (record { sheet = s; outcome = Refused r })
+  unfolding narrow_sheet_of
+  refused_narrows long a = sheet_narrows s long _ (ap (λ (v : Answer). run_after v s) (sym a ∙ answer_is))
+
+  module _ (a : k.answer ≡ Ok tt) where
+    let_pass : test_of s ≡ Ok tt
+    let_pass = sym answer_is ∙ a
+
+    pub accepted_tidied : k.sheet ≡ tidied s
+    accepted_tidied = ap (λ (l : Kept). l.sheet) e ∙ accept_sheet s let_pass
+
+    module _ (long : length s.cells ≡ 64) (records_long : length s.records ≡ 128) where
+      pub accepted_ready : Ready k.sheet
+      accepted_ready = rw accepted_tidied (tidied_ready s long records_long let_pass)
+
+      pub ran_narrows : {r : Run} → r ≡ ran_on s (end_of k.sheet) → NarrowsSheet s r
+      unfolding narrow_sheet_of
+      ran_narrows {r} q =
+          sheet_narrows s long r
+          (q ∙ ap (λ (u : Sheet). ran_on s (end_of u)) accepted_tidied ∙ ap (ran_on s) (tidied_end s long records_long let_pass) ∙ ap (λ (v : Answer). run_after v s) (sym let_pass))
+
 -- ---- the sheet handed back has the same width and records
 module _ (s : Sheet) (long : length s.records ≡ 128) where
-  same_left : (e : Ended) → test_of s ≡ Answer.Done → ((ran_on s e).sheet.width ≡ s.width) × (used_records (ran_on s e).sheet ≡ used_records s)
+  same_left : (e : Ended) → test_of s ≡ Ok tt → ((ran_on s e).sheet.width ≡ s.width) × (used_records (ran_on s e).sheet ≡ used_records s)
   unfolding tidied
   same_left (settled p box) t = (refl, tidied_records s long t)
   same_left (stopped p box) t = (refl, tidied_records s long t)
@@ -91,5 +115,5 @@ module _ (s : Sheet) (long : length s.records ≡ 128) where
   handed_back r h = rw h.answer (go (test_of s) refl)
     where
       go : (a : Answer) → test_of s ≡ a → ((run_after a s).sheet.width ≡ s.width) × (used_records (run_after a s).sheet ≡ used_records s)
-      go Answer.Done t = same_left (end_of s) t
-      go (Answer.Refused q) t = (refl, refl)
+      go (Ok u) t = same_left (end_of s) t
+      go (Err q) t = (refl, refl)

@@ -3,7 +3,10 @@ use mathlib.Core.Path.{◌≡◌, ap}
 use Prim.Native.Nat.{ℕ}
 use Rattle.sheet.specs.declared.kept.Record.{Record}
 use Rattle.sheet.specs.Members.{Each}
-use Rattle.sheet.specs.Records.{Kind, sum, diff, neg, kind_of, named_by, Values, fits_by, Local, fits}
+use Rattle.sheet.specs.declared.kind.Kind.{Kind}
+use Rattle.sheet.specs.declared.kind.Kind.TheVariants.{Sum, Diff, Neg}
+use Rattle.sheet.specs.Kinds.{kind_of}
+use Rattle.sheet.specs.Records.{named_by, Values, fits_by, Local, fits}
 
 module _ (f e : ℕ) where
   -- of a known kind
@@ -13,9 +16,9 @@ module _ (f e : ℕ) where
 
   -- values that agree at a record's cells fit alike
   fits_kind : (k : Kind) (r : Record) (v w : Values) → Each (λ i. v i ≡ w i) (named_by k r) → fits_by f e k (v r.x) (v r.a) (v r.b) ≡ fits_by f e k (w r.x) (w r.a) (w r.b)
-  fits_kind sum r v w s = rw (s.0, s.1.0, s.1.1.0)
-  fits_kind diff r v w s = rw (s.0, s.1.0, s.1.1.0)
-  fits_kind neg r v w s = rw (s.0, s.1.0)
+  fits_kind Sum r v w s = rw (s.0, s.1.0, s.1.1.0)
+  fits_kind Diff r v w s = rw (s.0, s.1.0, s.1.1.0)
+  fits_kind Neg r v w s = rw (s.0, s.1.0)
 
   pub fits_local : Local (fits f e)
   unfolding fits

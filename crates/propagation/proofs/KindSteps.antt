@@ -10,7 +10,7 @@ use lib.ListN.{length, set, length-set}
 use lib.Seq.{get_or-set_same, get_or-set_other}
 use borrow.Author.Tests.{eq-eqb, ne_eqb, eqb-true}
 use Rattle.ladder.specs.Ordinal.{mirrored}
-use Rattle.ladder.specs.Sum as Sum
+use Rattle.ladder.specs.Sum as Sums
 use Rattle.ladder.specs.Solution as L
 use Rattle.ladder.specs.Solution.{Interval, In, Bounded}
 use Rattle.ladder.specs.Narrowing.{Narrowing, none, ends, narrowing, HasA, Spans, Hull}
@@ -22,7 +22,10 @@ use Rattle.ladder.proofs.Reflection.{in_twice, mirror_twice, mirror_spans}
 use Rattle.arith.proofs.Valid.{shared}
 use Rattle.sheet.specs.declared.kept.Record.{Record}
 use Rattle.sheet.specs.Members.{Each}
-use Rattle.sheet.specs.Records.{Kind, sum, diff, neg, kind_of, named_by, named, Values, fits}
+use Rattle.sheet.specs.declared.kind.Kind.{Kind}
+use Rattle.sheet.specs.declared.kind.Kind.TheVariants.{Sum, Diff, Neg}
+use Rattle.sheet.specs.Kinds.{kind_of}
+use Rattle.sheet.specs.Records.{named_by, named, Values, fits}
 use Rattle.sheet.specs.Boxes.{Box, at}
 use Rattle.propagation.specs.Runs.{Step, unsolved, left, step}
 use Rattle.propagation.specs.Consistency.{Solution, Has}
@@ -97,7 +100,7 @@ step_of c r h (ends X A B) = left (put c r X (h A) B)
 -- ---- a sum x ⊕ g a = b: the values g a of a's cell run through A, and h turns an interval of them back
 module _ (f e : ℕ) (c : Box) (r : Record) (t : Three c r) (A : Interval) (g : ℕ → ℕ) (h : Interval → Interval)
     (naming : named r ≡ r.x ∷ r.a ∷ r.b ∷ [])
-    (fitting : (v : Values) → fits f e r v ≡ eqb (Sum.sum f e (v r.x) (g (v r.a))) (v r.b))
+    (fitting : (v : Values) → fits f e r v ≡ eqb (Sums.sum f e (v r.x) (g (v r.a))) (v r.b))
     (to : (y : ℕ) → In (at c r.a) y → In A (g y))
     (from : (y : ℕ) → In A y → In (at c r.a) (g y))
     (twice : (y : ℕ) → In A y → g (g y) ≡ y)
@@ -182,19 +185,19 @@ module _ (f e : ℕ) (c : Box) (r : Record) (t : Three c r) (A : Interval) (g : 
       sym (step_unique (fits f e) (fits_local f e) c r names (left (put c r X' (h A') B')) (leaves X' A' B' (narrowing_hull f e (at c r.x) A (at c r.b) X' A' B' n)))
 
 -- ---- a sum: a's interval as it is
-module _ (f e : ℕ) (c : Box) (r : Record) (k : kind_of r.kind ≡ sum) (t : Three c r) where
+module _ (f e : ℕ) (c : Box) (r : Record) (k : kind_of r.kind ≡ Sum) (t : Three c r) where
   same_back : (P : ℕ → Type 0) → ((y : ℕ) → P y → In (at c r.a) y) → (I : Interval) → Spans P I → Spans (λ y. In (at c r.a) y × P y) I
   same_back P inside I s = same_spans (λ y p. (inside y p, p)) (λ y p. p.1) I s
 
   pub sum_step : (t : Narrowing) → narrowing f e (at c r.x) (at c r.a) (at c r.b) ≡ t → step (fits f e) c r ≡ step_of c r (λ I. I) t
   sum_step =
-      triple_step f e c r t (at c r.a) (λ y. y) (λ I. I) (ap (λ (l : Kind). named_by l r) k) (fits_as f e r sum k) (λ y i. i) (λ y i. i) (λ y i. refl) same_back
+      triple_step f e c r t (at c r.a) (λ y. y) (λ I. I) (ap (λ (l : Kind). named_by l r) k) (fits_as f e r Sum k) (λ y i. i) (λ y i. i) (λ y i. refl) same_back
 
 -- ---- a diff: the sum with the mirror of a's interval
-module _ (f e : ℕ) (c : Box) (r : Record) (k : kind_of r.kind ≡ diff) (t : Three c r) (bounded : Bounded f e (at c r.a)) where
+module _ (f e : ℕ) (c : Box) (r : Record) (k : kind_of r.kind ≡ Diff) (t : Three c r) (bounded : Bounded f e (at c r.a)) where
   pub diff_step : (t : Narrowing) → narrowing f e (at c r.x) (reflection f e (at c r.a)) (at c r.b) ≡ t → step (fits f e) c r ≡ step_of c r (reflection f e) t
   diff_step =
-      triple_step f e c r t (reflection f e (at c r.a)) (mirrored f e) (reflection f e) (ap (λ (l : Kind). named_by l r) k) (fits_as f e r diff k)
+      triple_step f e c r t (reflection f e (at c r.a)) (mirrored f e) (reflection f e) (ap (λ (l : Kind). named_by l r) k) (fits_as f e r Diff k)
       (in_reflection f e (at c r.a)) (in_reflected f e (at c r.a) bounded) (mirror_twice f e (at c r.a) bounded) (mirror_spans f e (at c r.a) bounded)
 
 -- ---- a neg over two different cells of the box
@@ -204,7 +207,7 @@ pub record Two (c : Box) (r : Record) : Type 0 where
   pub a_x : r.a ≢ r.x
 
 -- x gets what it shares with the mirror of a, and a the mirror of that
-module _ (f e : ℕ) (c : Box) (r : Record) (k : kind_of r.kind ≡ neg) (t : Two c r) (x-bounded : Bounded f e (at c r.x)) (a-bounded : Bounded f e (at c r.a)) where
+module _ (f e : ℕ) (c : Box) (r : Record) (k : kind_of r.kind ≡ Neg) (t : Two c r) (x-bounded : Bounded f e (at c r.x)) (a-bounded : Bounded f e (at c r.a)) where
   abbrev S : Interval
   S = shared (at c r.x) (reflection f e (at c r.a))
 
@@ -228,7 +231,7 @@ module _ (f e : ℕ) (c : Box) (r : Record) (k : kind_of r.kind ≡ neg) (t : Tw
   opposed_to : (v : Values) → Solution (fits f e) c r v → Opposed (v r.x) (v r.a)
   opposed_to v s =
       let i = subst (Each (λ j. In (at c j) (v j))) naming s.inside in
-      let z : v r.a ≡ mirrored f e (v r.x) = eqb-true _ _ (sym (fits_as f e r neg k v) ∙ s.fits) in
+      let z : v r.a ≡ mirrored f e (v r.x) = eqb-true _ _ (sym (fits_as f e r Neg k v) ∙ s.fits) in
       let m = in_twice f e (at c r.x) x-bounded (v r.x) i.0 in
       let n = in_twice f e (at c r.a) a-bounded (v r.a) i.1.0 in
       record {
@@ -245,7 +248,7 @@ module _ (f e : ℕ) (c : Box) (r : Record) (k : kind_of r.kind ≡ neg) (t : Tw
       record {
         inside = subst (Each (λ j. In (at c j) (three r.x r.a y (mirrored f e y) 0 j))) (sym naming)
             (rw x (record { low = omega (arith, i.low); high = omega (arith, i.high) }), (rw a (record { low = omega (arith, i.high, l); high = omega (arith, i.low, h) }), tt));
-        fits = fits_as f e r neg k (three r.x r.a y (mirrored f e y) 0) ∙ eq-eqb _ _ (a ∙ ap (mirrored f e) (sym x));
+        fits = fits_as f e r Neg k (three r.x r.a y (mirrored f e y) 0) ∙ eq-eqb _ _ (a ∙ ap (mirrored f e) (sym x));
       }
 
   has_first : (y : ℕ) → In S y → Has (fits f e) c r r.x y

@@ -1,4 +1,5 @@
 -- Intervals of a box in patterns: their mirror and their cut are those of the ordinals. Assumes nothing.
+use Rattle.std.specs.Prelude.{Ok}
 use mathlib.Core.Path.{◌≡◌, ap, ap₂, ◌∙◌}
 use mathlib.Core.Bool.{true}
 use Prim.Native.Nat.{ℕ}
@@ -32,7 +33,7 @@ module _ (width : ℕ) (known : is_known width ≡ true) where
       mirrored_written width (patterns_of width I) (written_proper I p)
       ∙ ap (λ (K : L.Interval). patterns_of width (reflection f e K)) (written_span width I (bounded p))
 
-  pub cut_written : (I J : L.Interval) → Proper f e I → Proper f e J → cut_of width (patterns_of width I) (patterns_of width J) ≡ cut_answer width (shared I J)
+  pub cut_written : (I J : L.Interval) → Proper f e I → Proper f e J → cut_of width (patterns_of width I) (patterns_of width J) ≡ Ok (cut_answer width (shared I J))
   cut_written I J p q =
       valid_cut width (patterns_of width I) (patterns_of width J) (written_proper I p) (written_proper J q)
-      ∙ ap₂ (λ (K M : L.Interval). cut_answer width (shared K M)) (written_span width I (bounded p)) (written_span width J (bounded q))
+      ∙ ap₂ (λ (K M : L.Interval). Ok (cut_answer width (shared K M))) (written_span width I (bounded p)) (written_span width J (bounded q))

@@ -15,7 +15,9 @@ use Rattle.ladder.proofs.Hull.{same_spans}
 use Rattle.ladder.proofs.Pairing.{pairing_none, pairing_hull}
 use Rattle.sheet.specs.declared.kept.Record.{Record}
 use Rattle.sheet.specs.Members.{Each}
-use Rattle.sheet.specs.Records.{Kind, kind_of, named, Values, fits_by, fits}
+use Rattle.sheet.specs.declared.kind.Kind.{Kind}
+use Rattle.sheet.specs.Kinds.{kind_of}
+use Rattle.sheet.specs.Records.{named, Values, fits_by, fits}
 use Rattle.sheet.specs.Boxes.{Box, at}
 use Rattle.propagation.specs.Runs.{Step, unsolved, left, step}
 use Rattle.propagation.specs.Consistency.{Solution, Has}

@@ -1,15 +1,15 @@
 -- 02's R-14 on calls, from what their contracts promise (Calls) and R-14 on runs (PlannedRuns); and R-14 whole. Assumes nothing.
+use Rattle.std.specs.Prelude.{Ok, Err}
 use mathlib.Core.Path.{◌≡◌, refl, sym, ap, ap₂, subst, ◌∙◌}
 use mathlib.Core.List.{List}
 use Prim.Native.Nat.{ℕ, ◌≤◌}
 use Rattle.sheet.specs.declared.kept.Record.{Record}
-use Rattle.sheet.specs.declared.kept.Answer.{Answer}
 use Rattle.propagation.specs.declared.passes.Outcome.{Outcome}
 use Rattle.propagation.specs.declared.passes.Outcome.TheVariants.{Settled, NoTriple, Stopped, Refused}
 use Rattle.sheet.specs.Records.{Rules}
 use Rattle.sheet.specs.Boxes.{Box, Contains}
 use Rattle.sheet.specs.Cells.{rules_of, cells_of}
-use Rattle.sheet.specs.Sheets.{test_lists}
+use Rattle.sheet.specs.Sheets.{Answer, test_lists}
 use Rattle.propagation.specs.Runs.{Ended, settled, stopped, no_triple, run, left_by, last_box}
 use Rattle.propagation.specs.Calls.{Problem, Call, kept_call, box_before, box_after, test_on, end_on, outcome_by}
 use Rattle.propagation.specs.Planning.{SettlesWith, InsideOrFails, HasSettled, NotRefused, StartsInside, Raised, Reordered, LeavesInside, PlannedRuns, PlannedCalls, Planned}
@@ -29,12 +29,12 @@ RanTo (Refused r) box e = ⊥
 
 module _ (c : Call) (h : Answered c) where
   -- the test let it pass
-  let_pass : (o : Outcome) → NotRefused o → c.outcome ≡ o → test_on c ≡ Answer.Done
+  let_pass : (o : Outcome) → NotRefused o → c.outcome ≡ o → test_on c ≡ Ok tt
   let_pass o n k = go (test_on c) refl
     where
-      go : (a : Answer) → test_on c ≡ a → test_on c ≡ Answer.Done
-      go Answer.Done e = e
-      go (Answer.Refused t) e = absurd (subst NotRefused (sym k ∙ (call_refused c h t e).0) n)
+      go : (a : Answer) → test_on c ≡ a → test_on c ≡ Ok tt
+      go (Ok u) e = e
+      go (Err t) e = absurd (subst NotRefused (sym k ∙ (call_refused c h t e).0) n)
 
   ran_to : (o : Outcome) → NotRefused o → c.outcome ≡ o → RanTo o (box_after c) (end_on c)
   ran_to o n k =
@@ -92,7 +92,7 @@ module _ (c d : Call) (h : Answered c) (g : Answered d) where
     raised_end : end_on d ≡ run rules records d.limit (box_before c)
     raised_end = λ i. run (rules_of (r.width i)) (r.records i) d.limit (r.start i)
 
-    taken : test_on d ≡ Answer.Done
+    taken : test_on d ≡ Ok tt
     taken = let_pass d g d.outcome r.taken refl
 
     -- where that ended so, so did d
@@ -126,7 +126,7 @@ module _ (c d : Call) (h : Answered c) (g : Answered d) where
   other_limit : d.problem ≡ c.problem → 1 ≤ d.limit → d.limit ≤ 65535 → NotRefused c.outcome → NotRefused d.outcome
   other_limit q some few n =
       let t = tested_limit _ _ _ _ _ _ (let_pass c h c.outcome n refl) d.limit some few in
-      rw (call_ran d g (subst (λ (p : Problem). test_lists p.width d.limit p.cell_count p.record_count p.cells p.records ≡ Answer.Done) (sym q) t)) (by_end (end_on d))
+      rw (call_ran d g (subst (λ (p : Problem). test_lists p.width d.limit p.cell_count p.record_count p.cells p.records ≡ Ok tt) (sym q) t)) (by_end (end_on d))
     where
       by_end : (e : Ended) → NotRefused (outcome_by e)
       by_end (settled p box) = tt

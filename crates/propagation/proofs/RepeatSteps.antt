@@ -24,17 +24,18 @@ use Rattle.ladder.proofs.Hull.{within_bounded}
 use Rattle.ladder.proofs.Differences.{opposed_none, opposed_ends}
 use Rattle.ladder.proofs.Alike.{double_self, difference_self, absorbs_other, difference_pairing, zero_none, zero_ends}
 use Rattle.arith.specs.declared.interval.Interval.{Interval}
-use Rattle.arith.specs.declared.interval.Cut.{Cut}
-use Rattle.arith.specs.declared.interval.Cut.TheVariants.{Shared, Empty}
+use Rattle.arith.specs.declared.refusal.Refusal.{Refusal}
 use Rattle.arith.specs.declared.repeated.Paired.{Paired}
 use Rattle.arith.specs.Formats.{format_of}
 use Rattle.arith.specs.Intervals.{mirrored_ends, cut_of, span}
 use Rattle.arith.specs.Repeats as R
 use Rattle.arith.specs.Repeats.{doubling, absorbing, pair_of}
-use Rattle.arith.proofs.Formats.{sound}
 use Rattle.arith.proofs.Valid.{written_span, shared, valid_pair}
 use Rattle.sheet.specs.Members.{Each}
-use Rattle.sheet.specs.Records.{Kind, sum, diff, neg, kind_of, named_by, named, Values, fits_by, fits}
+use Rattle.sheet.specs.declared.kind.Kind.{Kind}
+use Rattle.sheet.specs.declared.kind.Kind.TheVariants.{Sum, Diff, Neg}
+use Rattle.sheet.specs.Kinds.{kind_of}
+use Rattle.sheet.specs.Records.{named_by, named, Values, fits_by, fits}
 use Rattle.sheet.specs.Cells.{patterns_of}
 use Rattle.sheet.specs.Sheets.{no_cell}
 use Rattle.sheet.specs.Boxes.{Box, Proper}
@@ -42,9 +43,8 @@ use Rattle.sheet.proofs.Members.{each_map}
 use Rattle.sheet.proofs.Records.{first_in}
 use Rattle.propagation.specs.declared.step.Alike.{Alike}
 use Rattle.propagation.specs.declared.step.Alike.TheVariants.{XA, XB, AB, All}
-use Rattle.propagation.specs.declared.step.Cells.{Cells}
-use Rattle.propagation.specs.declared.step.Cells.TheVariants.{Apart, Repeated}
-use Rattle.propagation.specs.RecordSteps.{zero_by, zero_answer, turn_other, two_answer, pair_in_roles, both_by, cells_of}
+use Rattle.std.specs.Prelude.{Option, Some, None, Result, Ok}
+use Rattle.propagation.specs.RecordSteps.{zero_by, zero_answer, turn_other, two_answer, pair_in_roles, both_by, alike_of}
 use Rattle.propagation.specs.Runs.{Step, unsolved, left, step}
 use Rattle.propagation.proofs.Fitting.{fits_as}
 use Rattle.propagation.proofs.Mirroring.{mirror_proper, mirror_written, cut_written}
@@ -60,14 +60,14 @@ pub data AlikeIn (x a b : ℕ) : Alike → Type 0 where
   a_b : b ≡ a → a ≢ x → AlikeIn x a b AB
   all : a ≡ x → b ≡ x → AlikeIn x a b All
 
-pub data CellsAre (x a b : ℕ) : Cells → Type 0 where
-  apart : a ≢ x → b ≢ x → b ≢ a → CellsAre x a b Apart
-  twice : {w : Alike} → AlikeIn x a b w → CellsAre x a b (Repeated w)
+pub data CellsAre (x a b : ℕ) : Option Alike → Type 0 where
+  apart : a ≢ x → b ≢ x → b ≢ a → CellsAre x a b None
+  twice : {w : Alike} → AlikeIn x a b w → CellsAre x a b (Some w)
 
-pub cells_are : (x a b : ℕ) → CellsAre x a b (cells_of x a b)
+pub cells_are : (x a b : ℕ) → CellsAre x a b (alike_of x a b)
 cells_are x a b = go (ℕ_discrete x a) (ℕ_discrete x b) (ℕ_discrete a b)
   where
-    go : Dec (x ≡ a) → Dec (x ≡ b) → Dec (a ≡ b) → CellsAre x a b (cells_of x a b)
+    go : Dec (x ≡ a) → Dec (x ≡ b) → Dec (a ≡ b) → CellsAre x a b (alike_of x a b)
     go (yes p) (yes q) s = rw (eq-eqb x a p, eq-eqb x b q) (twice (all (sym p) (sym q)))
     go (yes p) (no q) s = rw (eq-eqb x a p, ne_eqb x b q) (twice (x_a (sym p) (λ h. q (sym h))))
     go (no p) (yes q) s = rw (ne_eqb x a p, eq-eqb x b q) (twice (x_b (sym q) (λ h. p (sym h))))
@@ -79,7 +79,7 @@ module _ (g : Setting) where
   zero = O.sign (f g) (e g)
 
   some : 1 ≤ f g
-  some = (sound g.width).some
+  some = (format_of g.width).sound.some
 
   names : Each (λ i. i < length g.box) (named g.r)
   names = each_map (λ i. i < g.n) (λ i. i < length g.box) (named g.r) (λ i l. in_box g l) g.names.cells
@@ -111,9 +111,9 @@ module _ (g : Setting) where
       let z : O.pattern (f g) (e g) zero ≡ 0 = rw (le-ltb zero zero (le_refl zero)) (omega arith) in
       λ i. record { low = z i; high = z i }
 
-  data ZeroCut (I : L.Interval) : Cut → Type 0 where
-    there : In I zero → ZeroCut I (Shared no_cell)
-    not_there : (In I zero → ⊥) → ZeroCut I Empty
+  data ZeroCut (I : L.Interval) : Result (Option Interval) Refusal → Type 0 where
+    there : In I zero → ZeroCut I (Ok (Some no_cell))
+    not_there : (In I zero → ⊥) → ZeroCut I (Ok None)
 
   zero_cut : (I : L.Interval) → Proper (f g) (e g) I → ZeroCut I (cut_of g.width (patterns_of g.width I) no_cell)
   zero_cut I p =
@@ -123,13 +123,13 @@ module _ (g : Setting) where
       ∙ cut_written g.width g.known I Z p (record { low = zero_finite; high = zero_finite; order = le_refl zero })))
       (go (leb (shared I Z).low (shared I Z).high) refl)
     where
-      go : (t : Bool) → leb (shared I Z).low (shared I Z).high ≡ t → ZeroCut I (cond t (Shared (patterns_of g.width (shared I Z))) Empty)
+      go : (t : Bool) → leb (shared I Z).low (shared I Z).high ≡ t → ZeroCut I (Ok (cond t (Some (patterns_of g.width (shared I Z))) None))
       go true h =
           let o = leb-true (shared I Z).low (shared I Z).high h in
           let l : (shared I Z).low ≡ zero = omega arith in
           let u : (shared I Z).high ≡ zero = omega arith in
           let same : shared I Z ≡ Z = (λ i. record { low = l i; high = u i }) in
-          subst (λ (J : Interval). ZeroCut I (Shared J)) (sym (ap (patterns_of g.width) same ∙ zero_written)) (there (record { low = omega arith; high = omega arith }))
+          subst (λ (J : Interval). ZeroCut I (Ok (Some J))) (sym (ap (patterns_of g.width) same ∙ zero_written)) (there (record { low = omega arith; high = omega arith }))
       go false h = let o = leb-false (shared I Z).low (shared I Z).high h in not_there (λ (i : In I zero). omega (arith, o, i.low, i.high))
 
   -- ---- a sum or a diff, whose numbers name all three
@@ -183,7 +183,7 @@ module _ (g : Setting) where
           to (v g.r.x) (finite_in (f g) (e g) (X g) (bounded (x_proper g)) (v g.r.x) i)
           (ap₂ (fits_by (f g) (e g) k (v g.r.x)) (ap v (sym a_x)) (ap v (sym b_x)) ∙ sym (fits_as (f g) (e g) g.r k kind v) ∙ h)
 
-      made_all : (t : Cut) → ZeroCut (X g) t → MadeBy g (pair_in_roles All (zero_by (x_cell g) t))
+      made_all : (t : Result (Option Interval) Refusal) → ZeroCut (X g) t → MadeBy g (pair_in_roles All (zero_by (x_cell g) t))
       made_all t (there i) = (
         put g.box g.r Z Z Z,
         one_step (f g) (e g) g.box g.r g.r.x zero names each first value (fits_as (f g) (e g) g.r k kind (λ _. zero) ∙ from) i
@@ -194,79 +194,79 @@ module _ (g : Setting) where
       made_all t (not_there n) = one_none (f g) (e g) g.box g.r g.r.x zero names each first value (fits_as (f g) (e g) g.r k kind (λ _. zero) ∙ from) n
 
   -- ---- by kind
-  sum_named : kind_of g.r.kind ≡ sum → named g.r ≡ g.r.x ∷ g.r.a ∷ g.r.b ∷ []
+  sum_named : kind_of g.r.kind ≡ Sum → named g.r ≡ g.r.x ∷ g.r.a ∷ g.r.b ∷ []
   sum_named k = ap (λ (l : Kind). named_by l g.r) k
 
-  diff_named : kind_of g.r.kind ≡ diff → named g.r ≡ g.r.x ∷ g.r.a ∷ g.r.b ∷ []
+  diff_named : kind_of g.r.kind ≡ Diff → named g.r ≡ g.r.x ∷ g.r.a ∷ g.r.b ∷ []
   diff_named k = ap (λ (l : Kind). named_by l g.r) k
 
   -- x ⊕ a = x: as it is
-  by_rest : (k : kind_of g.r.kind ≡ sum) → g.r.b ≡ g.r.x → g.r.a ≢ g.r.x → (n : Pairing) → pairing (absorbs (f g) (e g)) (X g) (A g) ≡ n →
-      MadeBy g (pair_in_roles XB (turn_other g.width 0 (R.pair_answer (format_of g.width) n)))
-  by_rest k p q none h = step_xb sum k (sum_named k) p q none h
-  by_rest k p q (ends P Q) h = (put g.box g.r P Q P, step_xb sum k (sum_named k) p q (ends P Q) h, put_places g P Q P)
+  by_rest : (k : kind_of g.r.kind ≡ Sum) → g.r.b ≡ g.r.x → g.r.a ≢ g.r.x → (n : Pairing) → pairing (absorbs (f g) (e g)) (X g) (A g) ≡ n →
+      MadeBy g (pair_in_roles XB (turn_other g.width Sum (R.pair_answer (format_of g.width) n)))
+  by_rest k p q none h = step_xb Sum k (sum_named k) p q none h
+  by_rest k p q (ends P Q) h = (put g.box g.r P Q P, step_xb Sum k (sum_named k) p q (ends P Q) h, put_places g P Q P)
 
-  pub sum_repeated : kind_of g.r.kind ≡ sum → (w : Alike) → AlikeIn g.r.x g.r.a g.r.b w → MadeBy g (pair_in_roles w (two_answer g.width 0 w (x_cell g) (a_cell g) (b_cell g)))
+  pub sum_repeated : kind_of g.r.kind ≡ Sum → (w : Alike) → AlikeIn g.r.x g.r.a g.r.b w → MadeBy g (pair_in_roles w (two_answer g.width Sum w (x_cell g) (a_cell g) (b_cell g)))
   sum_repeated k XA (x_a p q) =
-      subst (λ (t : Paired). MadeBy g (pair_in_roles XA t))
+      subst (λ (t : Result Paired Refusal). MadeBy g (pair_in_roles XA t))
       (sym ((λ i. pair_of doubling g.width (x_is g i) (b_is g i)) ∙ pair_is doubles (X g) (B g) (x_proper g) (b_proper g)))
-      (made_xa sum k (sum_named k) p q (pairing (doubles (f g) (e g)) (X g) (B g)) refl)
+      (made_xa Sum k (sum_named k) p q (pairing (doubles (f g) (e g)) (X g) (B g)) refl)
   sum_repeated k XB (x_b p q) =
-      subst (λ (t : Paired). MadeBy g (pair_in_roles XB (turn_other g.width 0 t)))
+      subst (λ (t : Result Paired Refusal). MadeBy g (pair_in_roles XB (turn_other g.width Sum t)))
       (sym ((λ i. pair_of absorbing g.width (x_is g i) (a_is g i)) ∙ pair_is absorbs (X g) (A g) (x_proper g) (a_proper g)))
       (by_rest k p q (pairing (absorbs (f g) (e g)) (X g) (A g)) refl)
   sum_repeated k AB (a_b p q) =
-      subst (λ (t : Paired). MadeBy g (pair_in_roles AB t))
+      subst (λ (t : Result Paired Refusal). MadeBy g (pair_in_roles AB t))
       (sym ((λ i. pair_of absorbing g.width (a_is g i) (x_is g i)) ∙ pair_is absorbs (A g) (X g) (a_proper g) (x_proper g)))
-      (made_ab sum k (sum_named k) p q (pairing (absorbs (f g) (e g)) (A g) (X g)) (absorbs_other (f g) (e g) some (A g) (X g)))
+      (made_ab Sum k (sum_named k) p q (pairing (absorbs (f g) (e g)) (A g) (X g)) (absorbs_other (f g) (e g) some (A g) (X g)))
   sum_repeated k All (all p q) =
-      made_all sum k (sum_named k) p q
+      made_all Sum k (sum_named k) p q
       (λ u n h. (double_self (f g) (e g) some u n).0 (eqb-true _ _ h)) (eq-eqb _ _ ((double_self (f g) (e g) some zero zero_finite).1 refl))
       (cut_of g.width (x_cell g) no_cell) (subst (λ (I : Interval). ZeroCut (X g) (cut_of g.width I no_cell)) (sym (x_is g)) (zero_cut (X g) (x_proper g)))
 
   -- x ⊖ x = b: b is zero
-  by_zero : (k : kind_of g.r.kind ≡ diff) → g.r.a ≡ g.r.x → g.r.b ≢ g.r.x → (t : Cut) → ZeroCut (B g) t → MadeBy g (pair_in_roles XA (zero_by (x_cell g) t))
+  by_zero : (k : kind_of g.r.kind ≡ Diff) → g.r.a ≡ g.r.x → g.r.b ≢ g.r.x → (t : Result (Option Interval) Refusal) → ZeroCut (B g) t → MadeBy g (pair_in_roles XA (zero_by (x_cell g) t))
   by_zero k p q t (there i) = (
     put g.box g.r (X g) (X g) Z,
-    step_xa diff k (diff_named k) p q (ends (X g) Z) (zero_ends (f g) (e g) some (X g) (B g) (bounded (x_proper g)) (x_proper g).order i),
+    step_xa Diff k (diff_named k) p q (ends (X g) Z) (zero_ends (f g) (e g) some (X g) (B g) (bounded (x_proper g)) (x_proper g).order i),
     ap₂ (λ (I J : Interval). put (cells g) g.r I I J) (x_is g) (sym zero_written) ∙ put_places g (X g) (X g) Z,
   )
-  by_zero k p q t (not_there n) = step_xa diff k (diff_named k) p q none (zero_none (f g) (e g) some (X g) (B g) (bounded (x_proper g)) n)
+  by_zero k p q t (not_there n) = step_xa Diff k (diff_named k) p q none (zero_none (f g) (e g) some (X g) (B g) (bounded (x_proper g)) n)
 
   -- x ⊖ a = x: with the mirror of a
-  by_mirrored : (k : kind_of g.r.kind ≡ diff) → g.r.b ≡ g.r.x → g.r.a ≢ g.r.x → (n : Pairing) → pairing (absorbs (f g) (e g)) (X g) (reflection (f g) (e g) (A g)) ≡ n →
-      MadeBy g (pair_in_roles XB (turn_other g.width 1 (R.pair_answer (format_of g.width) n)))
-  by_mirrored k p q none h = step_xb diff k (diff_named k) p q none (opposed_none (f g) (e g) (absorbs (f g) (e g)) (X g) (A g) (bounded (a_proper g)) h)
+  by_mirrored : (k : kind_of g.r.kind ≡ Diff) → g.r.b ≡ g.r.x → g.r.a ≢ g.r.x → (n : Pairing) → pairing (absorbs (f g) (e g)) (X g) (reflection (f g) (e g) (A g)) ≡ n →
+      MadeBy g (pair_in_roles XB (turn_other g.width Diff (R.pair_answer (format_of g.width) n)))
+  by_mirrored k p q none h = step_xb Diff k (diff_named k) p q none (opposed_none (f g) (e g) (absorbs (f g) (e g)) (X g) (A g) (bounded (a_proper g)) h)
   by_mirrored k p q (ends P Q) h =
       let M = reflection (f g) (e g) (A g) in
       let w = (pair_within (absorbs (f g) (e g)) (X g) M P Q (pairing_hull (absorbs (f g) (e g)) (X g) M P Q h)).1 in
       let b = within_bounded (mirror_bounded (f g) (e g) (A g) (bounded (a_proper g))) w in
       let m : Proper (f g) (e g) Q = record { low = b.low; high = b.high; order = w.order } in (
         put g.box g.r P (reflection (f g) (e g) Q) P,
-        step_xb diff k (diff_named k) p q (ends P (reflection (f g) (e g) Q)) (opposed_ends (f g) (e g) (absorbs (f g) (e g)) (X g) (A g) (bounded (a_proper g)) P Q h),
+        step_xb Diff k (diff_named k) p q (ends P (reflection (f g) (e g) Q)) (opposed_ends (f g) (e g) (absorbs (f g) (e g)) (X g) (A g) (bounded (a_proper g)) P Q h),
         ap (λ (I : Interval). put (cells g) g.r (patterns_of g.width P) I (patterns_of g.width P)) (mirror_written g.width g.known Q m)
             ∙ put_places g P (reflection (f g) (e g) Q) P,
       )
 
-  pub diff_repeated : kind_of g.r.kind ≡ diff → (w : Alike) → AlikeIn g.r.x g.r.a g.r.b w → MadeBy g (pair_in_roles w (two_answer g.width 1 w (x_cell g) (a_cell g) (b_cell g)))
+  pub diff_repeated : kind_of g.r.kind ≡ Diff → (w : Alike) → AlikeIn g.r.x g.r.a g.r.b w → MadeBy g (pair_in_roles w (two_answer g.width Diff w (x_cell g) (a_cell g) (b_cell g)))
   diff_repeated k XA (x_a p q) =
       by_zero k p q (cut_of g.width (b_cell g) no_cell) (subst (λ (I : Interval). ZeroCut (B g) (cut_of g.width I no_cell)) (sym (b_is g)) (zero_cut (B g) (b_proper g)))
   diff_repeated k XB (x_b p q) =
       let m = ap (mirrored_ends (format_of g.width)) (a_is g) ∙ mirror_written g.width g.known (A g) (a_proper g) in
-      subst (λ (t : Paired). MadeBy g (pair_in_roles XB (turn_other g.width 1 t)))
+      subst (λ (t : Result Paired Refusal). MadeBy g (pair_in_roles XB (turn_other g.width Diff t)))
       (sym ((λ i. pair_of absorbing g.width (x_is g i) (m i)) ∙ pair_is absorbs (X g) (reflection (f g) (e g) (A g)) (x_proper g) (mirror_proper (f g) (e g) (A g) (a_proper g))))
       (by_mirrored k p q (pairing (absorbs (f g) (e g)) (X g) (reflection (f g) (e g) (A g))) refl)
   diff_repeated k AB (a_b p q) =
-      subst (λ (t : Paired). MadeBy g (pair_in_roles AB t))
+      subst (λ (t : Result Paired Refusal). MadeBy g (pair_in_roles AB t))
       (sym ((λ i. pair_of doubling g.width (a_is g i) (x_is g i)) ∙ pair_is doubles (A g) (X g) (a_proper g) (x_proper g)))
-      (made_ab diff k (diff_named k) p q (pairing (doubles (f g) (e g)) (A g) (X g)) (difference_pairing (f g) (e g) some (A g) (X g) (bounded (a_proper g)) (bounded (x_proper g))))
+      (made_ab Diff k (diff_named k) p q (pairing (doubles (f g) (e g)) (A g) (X g)) (difference_pairing (f g) (e g) some (A g) (X g) (bounded (a_proper g)) (bounded (x_proper g))))
   diff_repeated k All (all p q) =
-      made_all diff k (diff_named k) p q
+      made_all Diff k (diff_named k) p q
       (λ u n h. sym (eqb-true _ _ h) ∙ difference_self (f g) (e g) some u n) (eq-eqb _ _ (difference_self (f g) (e g) some zero zero_finite))
       (cut_of g.width (x_cell g) no_cell) (subst (λ (I : Interval). ZeroCut (X g) (cut_of g.width I no_cell)) (sym (x_is g)) (zero_cut (X g) (x_proper g)))
 
   -- ---- a neg over one cell: the third cell is written back as it came
-  module _ (k : kind_of g.r.kind ≡ neg) (same : g.r.a ≡ g.r.x) where
+  module _ (k : kind_of g.r.kind ≡ Neg) (same : g.r.a ≡ g.r.x) where
     neg_named : named g.r ≡ g.r.x ∷ g.r.a ∷ []
     neg_named = ap (λ (l : Kind). named_by l g.r) k
 
@@ -278,15 +278,15 @@ module _ (g : Setting) where
 
     neg_value : (v : Values) → In (X g) (v g.r.x) → fits (f g) (e g) g.r v ≡ true → v g.r.x ≡ zero
     neg_value v i h =
-        let m : v g.r.a ≡ mirrored (f g) (e g) (v g.r.x) = eqb-true _ _ (sym (fits_as (f g) (e g) g.r neg k v) ∙ h) in
+        let m : v g.r.a ≡ mirrored (f g) (e g) (v g.r.x) = eqb-true _ _ (sym (fits_as (f g) (e g) g.r Neg k v) ∙ h) in
         omega (arith, ap v same, m, in_twice (f g) (e g) (X g) (bounded (x_proper g)) (v g.r.x) i)
 
     neg_fits : fits (f g) (e g) g.r (λ _. zero) ≡ true
     neg_fits =
         let m : zero ≡ mirrored (f g) (e g) zero = omega arith in
-        fits_as (f g) (e g) g.r neg k (λ _. zero) ∙ eq-eqb _ _ m
+        fits_as (f g) (e g) g.r Neg k (λ _. zero) ∙ eq-eqb _ _ m
 
-    by_both : (t : Cut) → ZeroCut (X g) t → MadeBy g (both_by (b_cell g) (zero_by (x_cell g) t))
+    by_both : (t : Result (Option Interval) Refusal) → ZeroCut (X g) t → MadeBy g (both_by (b_cell g) (zero_by (x_cell g) t))
     by_both t (there i) =
         let new = set (set g.box g.r.a Z) g.r.x Z in (
           new,

@@ -7,7 +7,8 @@ use lib.ListN.{length, get_or, set, length-set}
 use Rattle.ladder.specs.Solution as L
 use Rattle.arith.specs.declared.interval.Interval.{Interval}
 use Rattle.arith.specs.declared.narrow.Narrowed.{Narrowed}
-use Rattle.arith.specs.declared.narrow.Narrowed.TheVariants.{Ends, Refused}
+use Rattle.arith.specs.declared.refusal.Refusal.{Refusal}
+use Rattle.std.specs.Prelude.{Result, Ok, Err}
 use Rattle.arith.specs.Formats.{is_known}
 use Rattle.arith.specs.Intervals.{Valid}
 use Rattle.arith.proofs.Valid.{written_valid}
@@ -86,9 +87,9 @@ module _ (g : Setting) where
   valid I p = written_valid g.width I (bounded p) g.known p.order
 
   -- ---- what a record's answer makes of the box
-  abbrev pub MadeBy : Narrowed → Type 0
-  MadeBy (Refused q) = step (rules_of g.width) g.box g.r ≡ unsolved
-  MadeBy (Ends p q s) = (new : Box) × (step (rules_of g.width) g.box g.r ≡ left new) × (put cells g.r p q s ≡ places g.width g.n new)
+  abbrev pub MadeBy : Result Narrowed Refusal → Type 0
+  MadeBy (Err q) = step (rules_of g.width) g.box g.r ≡ unsolved
+  MadeBy (Ok n) = (new : Box) × (step (rules_of g.width) g.box g.r ≡ left new) × (put cells g.r n.x n.a n.b ≡ places g.width g.n new)
 
   -- cells put into their places: a and x, and three
   pub pair_places :

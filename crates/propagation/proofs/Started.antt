@@ -9,7 +9,7 @@ use lib.Seq.{get_or-take}
 use Rattle.arith.specs.declared.interval.Interval.{Interval}
 use Rattle.sheet.specs.declared.kept.Record.{Record}
 use Rattle.sheet.specs.declared.kept.Sheet.{Sheet}
-use Rattle.sheet.specs.declared.kept.Answer.TheVariants.{Done}
+use Rattle.std.specs.Prelude.{Ok}
 use Rattle.sheet.specs.Members.{Each}
 use Rattle.sheet.specs.Records.{named, Names}
 use Rattle.sheet.specs.Boxes.{Box, IsBox}
@@ -25,7 +25,7 @@ use Rattle.propagation.specs.Narrowings.{end_of}
 use Rattle.propagation.proofs.Places.{box_found, places_show}
 
 -- ---- lists; m and n are their counts
-module _ (width limit m n : ℕ) (cells : List Interval) (records : List Record) (t : test_lists width limit m n cells records ≡ Done) (size : length cells ≡ m) where
+module _ (width limit m n : ℕ) (cells : List Interval) (records : List Record) (t : test_lists width limit m n cells records ≡ Ok tt) (size : length cells ≡ m) where
   pub first_box : IsBox (fraction_of width) (exponent_of width) (length (box_of width cells)) (box_of width cells)
   first_box = let b = (tested width limit m n cells records t).box size in rw b.cells b
 
@@ -35,7 +35,7 @@ module _ (width limit m n : ℕ) (cells : List Interval) (records : List Record)
       rw (p.box size).cells (each_at (λ r. Each (λ i. i < m) (named r)) no_record records (λ k l. (p.names k l).cells))
 
 -- ---- a sheet, tidied
-module _ (s : Sheet) (cells_long : length s.cells ≡ 64) (records_long : length s.records ≡ 128) (t : test_of s ≡ Done) where
+module _ (s : Sheet) (cells_long : length s.cells ≡ 64) (records_long : length s.records ≡ 128) (t : test_of s ≡ Ok tt) where
   used_box : IsBox (fraction_of s.width) (exponent_of s.width) s.cell_count (box_of s.width (used_cells s))
   used_box = (sheet_tested s t).box (cells_counted s t cells_long)
 

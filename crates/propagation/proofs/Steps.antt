@@ -6,7 +6,7 @@ use mathlib.Core.List.{List}
 use Prim.Native.Nat.{ℕ, ◌≤◌}
 use native.Mathlib.Omega.{arith}
 use native.Mathlib.Decide.{ℕ_discrete}
-use lib.Dec.{leb, ltb, eqb}
+use lib.Dec.{leb, eqb}
 use lib.ListN.{get_or, take, set}
 use lib.Seq.{set-get_or}
 use borrow.Author.Tests.{leb-true, leb-false, eq-eqb, ne_eqb}
@@ -17,23 +17,23 @@ use Rattle.ladder.proofs.Hull.{narrowing_hull, hull_bounded, hull_a}
 use Rattle.ladder.proofs.Solutions.{mirror_bounded}
 use Rattle.arith.specs.declared.interval.Interval.{Interval}
 use Rattle.arith.specs.declared.refusal.Refusal.{Refusal}
-use Rattle.arith.specs.declared.interval.Cut.{Cut}
-use Rattle.arith.specs.declared.interval.Cut.TheVariants.{Shared, Empty}
 use Rattle.arith.specs.declared.narrow.Narrowed.{Narrowed}
-use Rattle.arith.specs.declared.narrow.Narrowed.TheVariants.{Ends, Refused}
 use Rattle.arith.specs.Formats.{is_known, format_of}
 use Rattle.arith.specs.Intervals.{mirrored_ends, cut_of}
 use Rattle.arith.specs.Narrows.{narrow_answer, narrow_of}
 use Rattle.arith.proofs.Valid.{written_span, shared, valid_narrow}
 use Rattle.sheet.specs.declared.kept.Record.{Record}
-use Rattle.sheet.specs.Records.{sum, diff, neg, kind_of, Names}
+use Rattle.sheet.specs.declared.kind.Kind.{Kind}
+use Rattle.sheet.specs.declared.kind.Kind.TheVariants.{Sum, Diff, Neg}
+use Rattle.sheet.specs.Kinds.{kind_of}
+use Rattle.sheet.specs.Records.{Names}
 use Rattle.sheet.specs.Cells.{fraction_of, exponent_of, rules_of, patterns_of, box_of}
 use Rattle.sheet.specs.Sheets.{no_cell, places}
 use Rattle.sheet.specs.Boxes.{Proper}
-use Rattle.propagation.specs.declared.step.Cells.{Cells}
-use Rattle.propagation.specs.declared.step.Cells.TheVariants.{Apart, Repeated}
+use Rattle.propagation.specs.declared.step.Alike.{Alike}
+use Rattle.std.specs.Prelude.{Option, Some, None, Result, Ok, Err}
 use Rattle.propagation.specs.Runs.{unsolved, left, step, same_box}
-use Rattle.propagation.specs.RecordSteps.{turn_second, mirror_by, mirror_answer, neg_answer, answer_by, cells_of, record_answer}
+use Rattle.propagation.specs.RecordSteps.{turn_second, mirror_by, mirror_answer, neg_answer, answer_by, kind_answer, record_answer}
 use Rattle.propagation.specs.Loops.{box_in, Shows, Compares}
 use Rattle.propagation.proofs.Boxes.{equal_same, unequal_same}
 use Rattle.propagation.proofs.Shrinking.{shrunk_box, step_shrunk}
@@ -42,7 +42,7 @@ use Rattle.propagation.proofs.KindSteps.{Three, put, sum_step, diff_step, Two, n
 use Rattle.propagation.proofs.Places.{bounded, box_found, places_show}
 use Rattle.propagation.proofs.Settings.{Setting, f, e, X, A, B, x_proper, a_proper, b_proper, in_box, cells, x_cell, a_cell, b_cell, x_is, a_is, b_is, valid, MadeBy, pair_places, put_places}
 use Rattle.propagation.proofs.RepeatSteps.{CellsAre, apart, twice, cells_are, sum_repeated, diff_repeated, neg_repeated}
-use Rattle.sheet.proofs.Records.{Kinded, a_sum, a_diff, a_neg, kinded, first_in, second_in, third_in}
+use Rattle.sheet.proofs.Records.{first_in, second_in, third_in}
 
 module _ (g : Setting) where
   -- the narrowing of intervals in patterns
@@ -55,13 +55,13 @@ module _ (g : Setting) where
 
   -- ---- a sum and a diff over three cells
   module _ (three : Three g.box g.r) where
-    by_sum : kind_of g.r.kind ≡ sum → (t : Narrowing) → narrowing (f g) (e g) (X g) (A g) (B g) ≡ t → MadeBy g (turn_second g.width 0 (narrow_answer (format_of g.width) t))
+    by_sum : kind_of g.r.kind ≡ Sum → (t : Narrowing) → narrowing (f g) (e g) (X g) (A g) (B g) ≡ t → MadeBy g (turn_second g.width Sum (narrow_answer (format_of g.width) t))
     by_sum k none h = sum_step (f g) (e g) g.box g.r k three none h
     by_sum k (ends X' A' B') h = (put g.box g.r X' A' B', sum_step (f g) (e g) g.box g.r k three (ends X' A' B') h, put_places g X' A' B')
 
     by_diff :
-        kind_of g.r.kind ≡ diff → (t : Narrowing) → narrowing (f g) (e g) (X g) (reflection (f g) (e g) (A g)) (B g) ≡ t →
-        MadeBy g (turn_second g.width 1 (narrow_answer (format_of g.width) t))
+        kind_of g.r.kind ≡ Diff → (t : Narrowing) → narrowing (f g) (e g) (X g) (reflection (f g) (e g) (A g)) (B g) ≡ t →
+        MadeBy g (turn_second g.width Diff (narrow_answer (format_of g.width) t))
     by_diff k none h = diff_step (f g) (e g) g.box g.r k three (bounded (a_proper g)) none h
     by_diff k (ends X' A' B') h =
         let M = reflection (f g) (e g) (A g) in
@@ -74,21 +74,21 @@ module _ (g : Setting) where
               ∙ put_places g X' (reflection (f g) (e g) A') B',
         )
 
-    sum_made : kind_of g.r.kind ≡ sum → MadeBy g (turn_second g.width 0 (narrow_of g.width (x_cell g) (a_cell g) (b_cell g)))
+    sum_made : kind_of g.r.kind ≡ Sum → MadeBy g (turn_second g.width Sum (narrow_of g.width (x_cell g) (a_cell g) (b_cell g)))
     sum_made k =
-        subst (λ (t : Narrowed). MadeBy g (turn_second g.width 0 t))
+        subst (λ (t : Result Narrowed Refusal). MadeBy g (turn_second g.width Sum t))
         (sym ((λ i. narrow_of g.width (x_is g i) (a_is g i) (b_is g i)) ∙ narrowed_is (X g) (A g) (B g) (x_proper g) (a_proper g) (b_proper g)))
         (by_sum k (narrowing (f g) (e g) (X g) (A g) (B g)) refl)
 
-    diff_made : kind_of g.r.kind ≡ diff → MadeBy g (turn_second g.width 1 (narrow_of g.width (x_cell g) (mirrored_ends (format_of g.width) (a_cell g)) (b_cell g)))
+    diff_made : kind_of g.r.kind ≡ Diff → MadeBy g (turn_second g.width Diff (narrow_of g.width (x_cell g) (mirrored_ends (format_of g.width) (a_cell g)) (b_cell g)))
     diff_made k =
         let m = ap (mirrored_ends (format_of g.width)) (a_is g) ∙ mirror_written g.width g.known (A g) (a_proper g) in
-        subst (λ (t : Narrowed). MadeBy g (turn_second g.width 1 t))
+        subst (λ (t : Result Narrowed Refusal). MadeBy g (turn_second g.width Diff t))
         (sym ((λ i. narrow_of g.width (x_is g i) (m i) (b_is g i)) ∙ narrowed_is (X g) (reflection (f g) (e g) (A g)) (B g) (x_proper g) (mirror_proper (f g) (e g) (A g) (a_proper g)) (b_proper g)))
         (by_diff k (narrowing (f g) (e g) (X g) (reflection (f g) (e g) (A g)) (B g)) refl)
 
   -- ---- a neg over two cells: the third cell is written back as it came
-  module _ (k : kind_of g.r.kind ≡ neg) (two : Two g.box g.r) where
+  module _ (k : kind_of g.r.kind ≡ Neg) (two : Two g.box g.r) where
     abbrev S : L.Interval
     S = shared (X g) (reflection (f g) (e g) (A g))
 
@@ -101,7 +101,7 @@ module _ (g : Setting) where
           order = o;
         }
 
-    by_mirror : (t : Bool) → leb S.low S.high ≡ t → MadeBy g (mirror_by g.width (b_cell g) (cond t (Shared (patterns_of g.width S)) Empty))
+    by_mirror : (t : Bool) → leb S.low S.high ≡ t → MadeBy g (mirror_by g.width (b_cell g) (Ok (cond t (Some (patterns_of g.width S)) None)))
     by_mirror true o = (
       set (set g.box g.r.a (reflection (f g) (e g) S)) g.r.x S,
       neg_solved (f g) (e g) g.box g.r k two (bounded (x_proper g)) (bounded (a_proper g)) (leb-true _ _ o),
@@ -114,7 +114,7 @@ module _ (g : Setting) where
     mirror_made : MadeBy g (mirror_answer g.width (x_cell g) (a_cell g) (b_cell g))
     mirror_made =
         let m = ap (mirrored_ends (format_of g.width)) (a_is g) ∙ mirror_written g.width g.known (A g) (a_proper g) in
-        subst (λ (t : Cut). MadeBy g (mirror_by g.width (b_cell g) t))
+        subst (λ (t : Result (Option Interval) Refusal). MadeBy g (mirror_by g.width (b_cell g) t))
         (sym ((λ i. cut_of g.width (x_is g i) (m i)) ∙ cut_written g.width g.known (X g) (reflection (f g) (e g) (A g)) (x_proper g) (mirror_proper (f g) (e g) (A g) (a_proper g))))
         (by_mirror (leb S.low S.high) refl)
 
@@ -129,64 +129,55 @@ module _ (g : Setting) where
     b_a = s;
   }
 
-  abbrev AnswerMade : ℕ → Cells → Type 0
-  AnswerMade kind t = MadeBy g (answer_by t g.width kind (x_cell g) (a_cell g) (b_cell g))
+  abbrev AnswerMade : Kind → Option Alike → Type 0
+  AnswerMade k t = MadeBy g (answer_by t g.width k (x_cell g) (a_cell g) (b_cell g))
 
-  by_sum_cells : kind_of g.r.kind ≡ sum → (t : Cells) → CellsAre g.r.x g.r.a g.r.b t → AnswerMade 0 t
-  by_sum_cells k Apart (apart p q s) = sum_made (three p q s) k
-  by_sum_cells k (Repeated w) (twice h) = sum_repeated g k w h
+  by_sum_cells : kind_of g.r.kind ≡ Sum → (t : Option Alike) → CellsAre g.r.x g.r.a g.r.b t → AnswerMade Sum t
+  by_sum_cells k None (apart p q s) = sum_made (three p q s) k
+  by_sum_cells k (Some w) (twice h) = sum_repeated g k w h
 
-  by_diff_cells : kind_of g.r.kind ≡ diff → (t : Cells) → CellsAre g.r.x g.r.a g.r.b t → AnswerMade 1 t
-  by_diff_cells k Apart (apart p q s) = diff_made (three p q s) k
-  by_diff_cells k (Repeated w) (twice h) = diff_repeated g k w h
+  by_diff_cells : kind_of g.r.kind ≡ Diff → (t : Option Alike) → CellsAre g.r.x g.r.a g.r.b t → AnswerMade Diff t
+  by_diff_cells k None (apart p q s) = diff_made (three p q s) k
+  by_diff_cells k (Some w) (twice h) = diff_repeated g k w h
 
-  by_neg : kind_of g.r.kind ≡ neg → MadeBy g (neg_answer g.width (eqb g.r.x g.r.a) (x_cell g) (a_cell g) (b_cell g))
+  by_neg : kind_of g.r.kind ≡ Neg → MadeBy g (neg_answer g.width (eqb g.r.x g.r.a) (x_cell g) (a_cell g) (b_cell g))
   by_neg k = go (ℕ_discrete g.r.x g.r.a)
     where
       go : Dec (g.r.x ≡ g.r.a) → MadeBy g (neg_answer g.width (eqb g.r.x g.r.a) (x_cell g) (a_cell g) (b_cell g))
       go (yes h) = rw (eq-eqb _ _ h) (neg_repeated g k (sym h))
       go (no n) = rw (ne_eqb _ _ n) (mirror_made k (record { x_in = in_box g (first_in g.n g.r g.names); a_in = in_box g (second_in g.n g.r g.names); a_x = λ h. n (sym h) }))
 
-  abbrev RecordMade : ℕ → Type 0
-  RecordMade kind =
-      MadeBy g
-      (cond (ltb 1 kind)
-      (neg_answer g.width (eqb g.r.x g.r.a) (x_cell g) (a_cell g) (b_cell g))
-      (answer_by (cells_of g.r.x g.r.a g.r.b) g.width kind (x_cell g) (a_cell g) (b_cell g)))
-
   all_made : MadeBy g (record_answer g.width g.r (x_cell g) (a_cell g) (b_cell g))
   unfolding record_answer
-  all_made = go (kinded g.r.kind)
+  all_made = go (kind_of g.r.kind) refl
     where
-      go : Kinded g.r.kind → RecordMade g.r.kind
-      go (a_sum z k) = subst RecordMade (sym z) (by_sum_cells k _ (cells_are g.r.x g.r.a g.r.b))
-      go (a_diff z k) = subst RecordMade (sym z) (by_diff_cells k _ (cells_are g.r.x g.r.a g.r.b))
-      go (a_neg l k) =
-          let z : 2 ≡ g.r.kind = omega (arith, l, g.names.kind) in
-          subst RecordMade z (by_neg k)
+      go : (k : Kind) → kind_of g.r.kind ≡ k → MadeBy g (kind_answer k g.width g.r (x_cell g) (a_cell g) (b_cell g))
+      go Sum k = by_sum_cells k _ (cells_are g.r.x g.r.a g.r.b)
+      go Diff k = by_diff_cells k _ (cells_are g.r.x g.r.a g.r.b)
+      go Neg k = by_neg k
 
 -- ---- a step on cells that stand for a box, by what the record's answer is
 module _ (width n : ℕ) (known : is_known width ≡ true) (r : Record) (names : Names n r) (l : List Interval) (shows : Shows width n l) where
   abbrev setting : Setting
   setting = record { width = width; n = n; known = known; r = r; names = names; box = box_in width n l; is = shows.box }
 
-  abbrev answer : Narrowed
+  abbrev answer : Result Narrowed Refusal
   answer = record_answer width r (get_or l r.x no_cell) (get_or l r.a no_cell) (get_or l r.b no_cell)
 
-  made : (t : Narrowed) → answer ≡ t → MadeBy setting t
+  made : (t : Result Narrowed Refusal) → answer ≡ t → MadeBy setting t
   made t q =
       subst (MadeBy setting)
       (ap (λ (c : List Interval). record_answer width r (get_or c r.x no_cell) (get_or c r.a no_cell) (get_or c r.b no_cell)) (sym shows.held) ∙ q)
       (all_made setting)
 
-  pub step_off : (q : Refusal) → answer ≡ Refused q → step (rules_of width) (box_in width n l) r ≡ unsolved
-  step_off q h = made (Refused q) h
+  pub step_off : (q : Refusal) → answer ≡ Err q → step (rules_of width) (box_in width n l) r ≡ unsolved
+  step_off q h = made (Err q) h
 
-  pub step_on : (x a b : Interval) → answer ≡ Ends x a b → (step (rules_of width) (box_in width n l) r ≡ left (box_in width n (put l r x a b))) × Shows width n (put l r x a b)
-  step_on x a b h =
-      let m = made (Ends x a b) h in
+  pub step_on : (s : Narrowed) → answer ≡ Ok s → (step (rules_of width) (box_in width n l) r ≡ left (box_in width n (put l r s.x s.a s.b))) × Shows width n (put l r s.x s.a s.b)
+  step_on s h =
+      let m = made (Ok s) h in
       let new = m.0 in
-      let c : put l r x a b ≡ places width n new = ap (λ (c : List Interval). put c r x a b) shows.held ∙ m.2 in
+      let c : put l r s.x s.a s.b ≡ places width n new = ap (λ (c : List Interval). put c r s.x s.a s.b) shows.held ∙ m.2 in
       let i = shrunk_box (fraction_of width) (exponent_of width) n (box_in width n l) new (step_shrunk (rules_of width) (box_in width n l) new r m.1) shows.box in
       (m.1 ∙ ap left (sym (box_found width n new i) ∙ ap (box_in width n) (sym c)), subst (Shows width n) (sym c) (places_show width n new i))
 

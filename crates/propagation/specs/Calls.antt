@@ -1,12 +1,12 @@
 -- Calls that narrow a sheet, kept or lent alike: what each was handed, what its caller has of it, and what it promises. Assumes nothing.
-use Rattle.std.specs.Prelude.{◌≡◌, List, [], ◌∷◌, ℕ, length}
+use Rattle.std.specs.Prelude.{◌≡◌, List, [], ◌∷◌, ℕ, length, Ok, Err}
 use Rattle.arith.specs.declared.interval.Interval.{Interval}
 use Rattle.sheet.specs.declared.kept.Record.{Record}
 use Rattle.sheet.specs.declared.kept.Sheet.{Sheet}
-use Rattle.sheet.specs.declared.kept.Answer.{Answer}
+use Rattle.arith.specs.Refusals as Refusals
 use Rattle.sheet.specs.Boxes.{Box}
 use Rattle.sheet.specs.Cells.{fraction_of, exponent_of, rules_of, box_of, cells_of}
-use Rattle.sheet.specs.Sheets.{used_cells, used_records, test_lists}
+use Rattle.sheet.specs.Sheets.{Answer, used_cells, used_records, test_lists}
 use Rattle.propagation.specs.declared.passes.Outcome.{Outcome}
 use Rattle.propagation.specs.declared.passes.Outcome.TheVariants.{Settled, NoTriple, Stopped, Refused}
 use Rattle.propagation.specs.declared.narrowing.Run.{Run}
@@ -90,13 +90,13 @@ outcome_by (no_triple p k) = NoTriple p k
 
 -- the test's refusal, else the outcome of the run
 abbrev pub outcome_after : Answer → Ended → Outcome
-outcome_after Answer.Done e = outcome_by e
-outcome_after (Answer.Refused r) e = Refused r
+outcome_after (Ok u) e = outcome_by e
+outcome_after (Err r) e = Refused r
 
 -- the cells afterwards: each end of the run's box in its one pattern; under a refusal and under 'no triple' as they came
 abbrev pub cells_after : Answer → ℕ → List Interval → Ended → List Interval
-cells_after Answer.Done width cells e = left_by (cells_of width) cells e
-cells_after (Answer.Refused r) width cells e = cells
+cells_after (Ok u) width cells e = left_by (cells_of width) cells e
+cells_after (Err r) width cells e = cells
 
 -- ---- by 01's numbers
 -- of each case: 0 where nothing is refused
@@ -104,7 +104,7 @@ abbrev pub outcome_number : Outcome → ℕ
 outcome_number (Settled passes) = 0
 outcome_number (NoTriple pass k) = 11
 outcome_number (Stopped passes) = 12
-outcome_number (Refused r) = r.number
+outcome_number (Refused r) = Refusals.number r.reason
 
 -- the values of each case: the passes made; pass and record; the passes; the place
 abbrev pub outcome_values : Outcome → List ℕ
@@ -115,13 +115,13 @@ outcome_values (Refused r) = r.place ∷ []
 
 -- the number due: the refusal's, else that of how the run ended
 abbrev pub number_after : Answer → Ended → ℕ
-number_after Answer.Done e = end_number e
-number_after (Answer.Refused r) e = r.number
+number_after (Ok u) e = end_number e
+number_after (Err r) e = Refusals.number r.reason
 
 -- the values due: the refusal's place, else those of how the run ended
 abbrev pub values_after : Answer → Ended → List ℕ
-values_after Answer.Done e = end_values e
-values_after (Answer.Refused r) e = r.place ∷ []
+values_after (Ok u) e = end_values e
+values_after (Err r) e = r.place ∷ []
 
 -- ---- what every such call promises
 pub record Narrows (c : Call) : Type 0 where
@@ -134,8 +134,8 @@ pub record Narrows (c : Call) : Type 0 where
   -- every refusal but 12 leaves the cells as they came
   pub kept : (outcome_number c.outcome ≡ 0 → ⊥) → (outcome_number c.outcome ≡ 12 → ⊥) → c.after ≡ c.problem.cells
   -- what is let pass has as many cells as it counts
-  pub counted : test_on c ≡ Answer.Done → length c.problem.cells ≡ c.problem.cell_count
+  pub counted : test_on c ≡ Ok tt → length c.problem.cells ≡ c.problem.cell_count
   -- it ends as it does, with the box that its cells then hold, exactly when the allowed passes did so
-  pub when : test_on c ≡ Answer.Done → EndsWhen (rules_of c.problem.width) c.problem.records c.limit (box_before c) (box_after c) c.outcome
+  pub when : test_on c ≡ Ok tt → EndsWhen (rules_of c.problem.width) c.problem.records c.limit (box_before c) (box_after c) c.outcome
   -- demand 3, from the cells first given to the cells afterwards
   pub demand3 : Demand3 (fraction_of c.problem.width) (exponent_of c.problem.width) c.problem.records (box_before c) (box_after c) c.outcome

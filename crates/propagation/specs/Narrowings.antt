@@ -1,9 +1,8 @@
 -- The whole answer of narrowing a kept sheet, and what it promises. Assumes nothing.
-use Rattle.std.specs.Prelude.{◌≡◌}
+use Rattle.std.specs.Prelude.{◌≡◌, Ok, Err}
 use Rattle.sheet.specs.declared.kept.Sheet.{Sheet}
-use Rattle.sheet.specs.declared.kept.Answer.{Answer}
 use Rattle.sheet.specs.Boxes.{Box}
-use Rattle.sheet.specs.Sheets.{places, tidied, with_cells, test_of}
+use Rattle.sheet.specs.Sheets.{Answer, places, tidied, with_cells, test_of}
 use Rattle.propagation.specs.declared.passes.Outcome.TheVariants.{Refused}
 use Rattle.propagation.specs.declared.narrowing.Run.{Run}
 use Rattle.propagation.specs.Runs.{Ended, left_by}
@@ -23,8 +22,8 @@ ran_on s e = record { sheet = left_by (with_box s) s e; outcome = outcome_by e }
 
 -- the sheet's own test first, then the run from its cells in use
 abbrev pub run_after : Answer → Sheet → Run
-run_after Answer.Done s = ran_on s (end_of s)
-run_after (Answer.Refused r) s = record { sheet = s; outcome = Refused r }
+run_after (Ok u) s = ran_on s (end_of s)
+run_after (Err r) s = record { sheet = s; outcome = Refused r }
 
 -- narrowing a kept sheet
 unfoldable pub narrow_sheet_of : Sheet → Run

@@ -1,16 +1,16 @@
 // The run: passes around records, from the cells first given until a pass moves no end, a record has no solution, or the pass limit is reached.
-ghost use Rattle.std.specs.Prelude.{◌≤◌, take};
-ghost use Rattle.propagation.specs.Loops.{Compares, Ready, EndsAs};
+ghost use Rattle.propagation.specs.Loops.{Ready, EndsAs};
 ghost use Rattle.propagation.specs.Narrowings.{end_of};
 
-use crate::step::narrow_record;
+use crate::step::Held;
 use arith::interval::Interval;
 use arith::narrow::Narrowed;
 use arith::refusal::Refusal;
 use sheet::kept::Sheet;
 
 // How a run ended, by pass and record, both as 01 counts them; or the refusal of the sheet.
-#[derive(Clone, Copy)]
+// Not a Result, which would be no plainer: three cases say how a run ended, and two of them, 11 and 12, are refusals of 01 too.
+#[derive(Clone, Copy, PartialEq, Eq)]
 pub enum Outcome {
     Settled { passes: u64 },
     NoTriple { pass: u64, record: u64 },
@@ -25,25 +25,7 @@ pub(crate) struct Halted {
     pub(crate) cells: [Interval; 64],
 }
 
-// Whether the first count cells are the same.
-fn same_cells(count: u64, p: [Interval; 64], q: [Interval; 64]) -> bool
-    requires { count ≤ 64 }
-    ensures { Compares result (take count p) (take count q) }
-{
-    for i in 0..count {
-        let u = p[i as usize];
-        let v = q[i as usize];
-        if u.low != v.low {
-            return false;
-        }
-        if u.high != v.high {
-            return false;
-        }
-    }
-    true
-}
-
-// The run on a sheet that is tested and tidied. The third number of a neg is 0, so cell 0 is written back as it was, before a neg's own cells are written. A cell that a record names more than once gets the same interval each time.
+// The run on a sheet that is tested and tidied, by the two loops that 01 names. The third number of a neg is 0, so cell 0 is written back as it was, before a neg's own cells are written. A cell that a record names more than once gets the same interval each time.
 pub(crate) fn run_passes(sheet: Sheet) -> Halted
     requires { Ready sheet }
     ensures { EndsAs sheet result (end_of sheet) }
@@ -57,19 +39,23 @@ pub(crate) fn run_passes(sheet: Sheet) -> Halted
     let mut pass: u64 = 1;
     let outcome = 'passes: loop {
         let before = cells;
+        // k stays a u64, since the outcome names the record by it.
         'records: for k in 0..n {
             let record = records[k as usize];
-            let x = cells[record.x as usize];
-            let a = cells[record.a as usize];
-            let b = cells[record.b as usize];
-            let Narrowed::Ends { x: p, a: q, b: r } = narrow_record(width, record, x, a, b) else {
+            let held = Held {
+                width,
+                x: cells[record.x as usize],
+                a: cells[record.a as usize],
+                b: cells[record.b as usize],
+            };
+            let Ok(Narrowed { x, a, b }) = held.narrow_record(record) else {
                 break 'passes Outcome::NoTriple { pass, record: k };
             };
-            cells[record.b as usize] = r;
-            cells[record.a as usize] = q;
-            cells[record.x as usize] = p;
+            cells[record.b as usize] = b;
+            cells[record.a as usize] = a;
+            cells[record.x as usize] = x;
         }
-        if same_cells(count, before, cells) {
+        if before[..count as usize] == cells[..count as usize] {
             break 'passes Outcome::Settled { passes: pass };
         }
         if limit <= pass {

@@ -8,28 +8,28 @@ use lib.Seq.{take_at, set_at}
 use Rattle.arith.specs.declared.interval.Interval.{Interval}
 use Rattle.sheet.specs.declared.kept.Record.{Record}
 use Rattle.sheet.specs.declared.kept.Sheet.{Sheet}
-use Rattle.sheet.specs.declared.kept.Answer.TheVariants.{Done}
-use Rattle.sheet.specs.Faults.{head_fault, cell_fault, record_fault}
+use Rattle.sheet.specs.Faults.{Fault, head_fault, cell_fault, record_fault}
 use Rattle.sheet.specs.Sheets.{no_cell, no_record, filled, used_cells, used_records, tidied, with_cell, with_record, first_fault, test_of_lists, test_of, Sound}
 use Rattle.sheet.proofs.Answers.{all_good, passes_test}
 use Rattle.sheet.proofs.Firsts.{faultless, none_found}
 use Rattle.sheet.proofs.Filling.{length_filled}
+use Rattle.std.specs.Prelude.{Ok}
 use Rattle.reader.specs.Texts.{built}
 
 -- ---- lists without a fault
-abbrev pub Faultless : {A : Type 0} → (A → ℕ) → List A → Type 0
+abbrev pub Faultless : {A : Type 0} → (A → Fault) → List A → Type 0
 Faultless fault [] = Unit {0}
-Faultless fault (v ∷ vs) = (fault v ≡ 0) × Faultless fault vs
+Faultless fault (v ∷ vs) = (fault v ≡ Ok tt) × Faultless fault vs
 
-module _ {A : Type 0} (fault : A → ℕ) where
-  faultless_list : (d : A) (i : ℕ) (l : List A) → first_fault fault i l ≡ Done → Faultless fault l
+module _ {A : Type 0} (fault : A → Fault) where
+  faultless_list : (d : A) (i : ℕ) (l : List A) → first_fault fault i l ≡ Ok tt → Faultless fault l
   faultless_list d i [] e = tt
   faultless_list d i (v ∷ vs) e = (
     faultless fault d i (v ∷ vs) e 0 (omega arith),
     faultless_list d (i + 1) vs (none_found fault d (i + 1) vs (λ j h. faultless fault d i (v ∷ vs) e (suc j) (omega arith))),
   )
 
-  first_none : (i : ℕ) (l : List A) → Faultless fault l → first_fault fault i l ≡ Done
+  first_none : (i : ℕ) (l : List A) → Faultless fault l → first_fault fault i l ≡ Ok tt
   unfolding first_fault
   first_none i [] f = refl
   first_none i (v ∷ vs) f = rw (f.0, first_none (i + 1) vs f.1)
@@ -38,19 +38,19 @@ module _ {A : Type 0} (fault : A → ℕ) where
   faultless_append [] ys f g = g
   faultless_append (x ∷ xs) ys f g = (f.0, faultless_append xs ys f.1 g)
 
-  pub faultless_next : (xs : List A) (y : A) (ys : List A) → Faultless fault (xs ++ (y ∷ ys)) → fault y ≡ 0
+  pub faultless_next : (xs : List A) (y : A) (ys : List A) → Faultless fault (xs ++ (y ∷ ys)) → fault y ≡ Ok tt
   faultless_next [] y ys f = f.0
   faultless_next (x ∷ xs) y ys f = faultless_next xs y ys f.1
 
 -- ---- what the test of such lists asks
 pub record Passing (w m : ℕ) (cs : List Interval) (ts : List Record) : Type 0 where
-  pub head : head_fault w m ≡ 0
+  pub head : head_fault w m ≡ Ok tt
   pub few_cells : length cs ≤ 64
   pub few_records : length ts ≤ 128
   pub cells : Faultless (cell_fault w) cs
   pub records : Faultless (record_fault (length cs)) ts
 
-pub lists_passing : (w m : ℕ) (cs : List Interval) (ts : List Record) → test_of_lists w m cs ts ≡ Done → Passing w m cs ts
+pub lists_passing : (w m : ℕ) (cs : List Interval) (ts : List Record) → test_of_lists w m cs ts ≡ Ok tt → Passing w m cs ts
 lists_passing w m cs ts e =
     let p = all_good w m (length cs) (length ts) cs ts e in
     record {
@@ -100,7 +100,7 @@ module _ (w m : ℕ) (cs : List Interval) (ts : List Record) where
   unfolding tidied
   loaded_tidied = rw (used_cells_lem, used_records_lem)
 
-  pub loaded_passes : Passing w m cs ts → test_of (loaded w m cs ts) ≡ Done
+  pub loaded_passes : Passing w m cs ts → test_of (loaded w m cs ts) ≡ Ok tt
   loaded_passes g =
       passes_test w m (length cs) (length ts) (used_cells (loaded w m cs ts)) (used_records (loaded w m cs ts))
       (record {

@@ -1,6 +1,6 @@
 -- Line feeds counted: a line with its line feed holds one, and past it stands the next line. Rests on specs/Bytes and specs/Steps.
 use mathlib.Core.Path.{◌≡◌, refl, sym}
-use mathlib.Core.Bool.{Bool, true, false, cond}
+use mathlib.Core.Bool.{Bool, true, false, cond, not}
 use mathlib.Core.List.{List, [], ◌∷◌, ◌++◌}
 use Prim.Native.Nat.{ℕ, suc, ◌+◌, ◌≤◌, ◌<◌}
 use native.Mathlib.Omega.{arith}
@@ -8,6 +8,7 @@ use lib.Dec.{eqb}
 use lib.ListN.{length, take, drop, length-take}
 use lib.Seq.{take-add}
 use borrow.Author.Tests.{ne_eqb}
+use Rattle.std.proofs.lemmas.List.Sums.{sum_by-cons, sum_by-append, count_by-le-length}
 use Rattle.reader.specs.Bytes.{index_of, count_of}
 use Rattle.reader.specs.Lines.{feed}
 use Rattle.reader.specs.Steps.{line_after, line_number}
@@ -15,21 +16,15 @@ use Rattle.reader.specs.Steps.{line_after, line_number}
 module _ (b : ℕ) where
   pub count_append : (xs ys : List ℕ) → count_of b (xs ++ ys) ≡ count_of b xs + count_of b ys
   unfolding count_of
-  count_append [] ys = omega arith
-  count_append (x ∷ xs) ys = rw (count_append xs ys) (go (eqb x b) (count_of b xs) (count_of b ys))
-    where
-      go : (t : Bool) (m n : ℕ) → cond t (suc (m + n)) (m + n) ≡ cond t (suc m) m + n
-      go true m n = omega arith
-      go false m n = refl
+  count_append = sum_by-append (λ x. cond (eqb x b) 1 0)
+
+  pub count_more : (x : ℕ) (xs : List ℕ) → count_of b (x ∷ xs) ≡ cond (eqb x b) 1 0 + count_of b xs
+  unfolding count_of
+  count_more = sum_by-cons (λ x. cond (eqb x b) 1 0)
 
   pub count_le : (xs : List ℕ) → count_of b xs ≤ length xs
   unfolding count_of
-  count_le [] = omega arith
-  count_le (x ∷ xs) = go (eqb x b) (count_of b xs) (length xs) (count_le xs)
-    where
-      go : (t : Bool) (m n : ℕ) → m ≤ n → cond t (suc m) m ≤ suc n
-      go true m n h = omega arith
-      go false m n h = omega arith
+  count_le = count_by-le-length (λ x. eqb x b)
 
   -- up to the first b there is one
   count_first : (xs : List ℕ) → index_of b xs < length xs → count_of b (take (suc (index_of b xs)) xs) ≡ 1
@@ -39,9 +34,11 @@ module _ (b : ℕ) where
     where
       go :
           (t : Bool) → eqb x b ≡ t → (index_of b xs < length xs → count_of b (take (suc (index_of b xs)) xs) ≡ 1) →
-          cond t 0 (suc (index_of b xs)) < suc (length xs) → count_of b (take (suc (cond t 0 (suc (index_of b xs)))) (x ∷ xs)) ≡ 1
+          cond (not t) (1 + index_of b xs) 0 < suc (length xs) → count_of b (take (suc (cond (not t) (1 + index_of b xs) 0)) (x ∷ xs)) ≡ 1
       go true e later h = rw e
-      go false e later h = rw e (later (omega arith))
+      go false e later h =
+          let k : 1 + index_of b xs ≡ suc (index_of b xs) = omega arith in
+          rw (k, count_more x (take (suc (index_of b xs)) xs), e, later (omega arith))
 
 -- the line after one that a text of so many bytes can have
 pub line_on : (line : ℕ) → line ≤ 8193 → line_after line ≡ line + 1

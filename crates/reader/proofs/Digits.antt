@@ -1,28 +1,32 @@
--- Laws by which the loop over digits goes: one digit more, and that the value fits where the whole number does. Rests on specs/Numbers and Searching.
+-- Laws by which the loop over digits goes: one digit more, and that the value fits where the whole number does. Rests on specs/Numbers.
 use mathlib.Core.Path.{◌≡◌}
 use mathlib.Core.List.{List}
 use Prim.Native.Nat.{ℕ, ◌+◌, ◌*◌, ◌^◌, ◌≤◌, ◌<◌}
 use native.Mathlib.Nat.{pow-suc, mul-le-mul_right, pow-le-pow_right}
 use native.Mathlib.Numerals.{add-one}
 use native.Mathlib.Omega.{arith}
-use lib.ListN.{length, get_or, drop}
+use lib.ListN.{length, get_or, drop, drop_of_length-le}
+use lib.Seq.{drop-cons}
 use borrow.Author.Tests.{lt-ltb, le-ltb}
+use Rattle.std.specs.Prelude.{Some, None}
 use Rattle.reader.specs.Numbers.{digit_of, value_from}
-use Rattle.reader.specs.declared.number.Number.TheVariants.{Value, Malformed}
-use Rattle.reader.proofs.Searching.{more, none}
 
 module _ (base v : ℕ) (s : List ℕ) (i : ℕ) where
-  pub value_on : i < length s → digit_of (get_or s i 0) < base → value_from base v (drop i s) ≡ value_from base (v * base + digit_of (get_or s i 0)) (drop (i + 1) s)
+  pub value_on : (d : ℕ) → i < length s → digit_of (get_or s i 0) ≡ Some d → d < base → value_from base v (drop i s) ≡ value_from base (v * base + d) (drop (i + 1) s)
   unfolding value_from
-  value_on h e = rw (more s i h, lt-ltb _ _ e)
+  value_on d h e f = rw (add-one, drop-cons s i 0, e, lt-ltb d base f)
 
-  pub value_off : i < length s → base ≤ digit_of (get_or s i 0) → value_from base v (drop i s) ≡ Malformed
+  pub value_off : (d : ℕ) → i < length s → digit_of (get_or s i 0) ≡ Some d → base ≤ d → value_from base v (drop i s) ≡ None
   unfolding value_from
-  value_off h e = rw (more s i h, le-ltb _ _ e)
+  value_off d h e f = rw (drop-cons s i 0, e, le-ltb d base f)
 
-  pub value_end : length s ≤ i → value_from base v (drop i s) ≡ Value v
+  pub value_bad : i < length s → digit_of (get_or s i 0) ≡ None → value_from base v (drop i s) ≡ None
   unfolding value_from
-  value_end h = rw (none s i h)
+  value_bad h e = rw (drop-cons s i 0, e)
+
+  pub value_end : length s ≤ i → value_from base v (drop i s) ≡ Some v
+  unfolding value_from
+  value_end h = rw (drop_of_length-le s h)
 
 -- one more digit keeps the value below the next power
 pub digit_below : (base v d i : ℕ) → v < base ^ i → d < base → v * base + d < base ^ (i + 1)
@@ -34,3 +38,7 @@ digit_fits base v d i n h e k f =
     let p : 0 < base = omega arith in
     let q : i + 1 ≤ n = omega arith in
     omega (arith, digit_below base v d i h e, pow-le-pow_right p q)
+
+-- sixteen hexadecimal digits fit
+pub hex_fits : (n : ℕ) → n ≤ 16 → 16 ^ n ≤ 2 ^ 64
+hex_fits n h = let p : 0 < 16 = omega arith in omega (arith, pow-le-pow_right p h)

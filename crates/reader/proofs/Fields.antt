@@ -1,5 +1,5 @@
--- Fields that hold none of a byte, what stands before and after that byte, and how often it occurs. Rests on specs/Bytes and Numerals.
-use mathlib.Core.Path.{◌≡◌, refl, ap}
+-- Fields that hold none of a byte, what stands before and after that byte, and how often it occurs. Rests on Counting and Numerals.
+use mathlib.Core.Path.{◌≡◌, refl}
 use mathlib.Core.List.{List, [], ◌∷◌, ◌++◌}
 use Prim.Native.Nat.{ℕ, zero, suc, ◌+◌, ◌/◌, ◌%◌, ◌<◌}
 use native.Mathlib.Omega.{arith}
@@ -9,6 +9,7 @@ use lib.Seq.{take-append_seam, drop-append-add}
 use Rattle.reader.specs.Bytes.{index_of, before, after, count_of}
 use Rattle.reader.specs.Digits.{digit_byte, digits_of, digit_count, decimal_of, hex_of}
 use Rattle.reader.specs.Numbers.{digits_for}
+use Rattle.reader.proofs.Counting.{count_more}
 use Rattle.reader.proofs.Numerals.{digit_high}
 
 -- no element is b
@@ -25,7 +26,7 @@ module _ (b : ℕ) where
   pub index_free : (xs ys : List ℕ) → Free b xs → index_of b (xs ++ (b ∷ ys)) ≡ length xs
   unfolding index_of
   index_free [] ys f = rw (eq-eqb b b refl)
-  index_free (x ∷ xs) ys f = rw (ne_eqb x b f.0) (ap suc (index_free xs ys f.1))
+  index_free (x ∷ xs) ys f = rw (ne_eqb x b f.0, index_free xs ys f.1) (omega arith)
 
   pub before_free : (xs ys : List ℕ) → Free b xs → before b (xs ++ (b ∷ ys)) ≡ xs
   unfolding before
@@ -36,9 +37,8 @@ module _ (b : ℕ) where
   after_free xs ys f = rw (index_free xs ys f) (drop-append-add xs (b ∷ ys) 1)
 
   pub count_free : (xs ys : List ℕ) → Free b xs → count_of b (xs ++ (b ∷ ys)) ≡ count_of b ys + 1
-  unfolding count_of
-  count_free [] ys f = rw (eq-eqb b b refl) (omega arith)
-  count_free (x ∷ xs) ys f = rw (ne_eqb x b f.0) (count_free xs ys f.1)
+  count_free [] ys f = rw (count_more b b ys, eq-eqb b b refl) (omega arith)
+  count_free (x ∷ xs) ys f = rw (count_more b x (xs ++ (b ∷ ys)), ne_eqb x b f.0, count_free xs ys f.1) (omega arith)
 
   -- ---- digits
   pub digits_free : (base k n : ℕ) → b < 48 → Free b (digits_of base k n)

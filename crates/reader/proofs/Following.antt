@@ -7,12 +7,12 @@ use native.Mathlib.Omega.{arith}
 use lib.ListN.{length}
 use Rattle.sheet.specs.declared.kept.Sheet.{Sheet}
 use Rattle.sheet.specs.Sheets.{blank}
-use Rattle.reader.specs.Steps.{start, next_of, past, after_of, cursor_after}
-use Rattle.reader.specs.Readings.{filled_by, sheet_after, refused_text, read_by, read_of, Stops}
+use Rattle.std.specs.Prelude.{Some, None, Ok, Err}
+use Rattle.reader.specs.Steps.{Step, start, next_of, past, after_of, cursor_after}
+use Rattle.reader.specs.Readings.{with_entry, filled_by, sheet_after, refused_text, read_sheet, read_by, read_of, Stops}
 use Rattle.reader.specs.declared.cursor.Cursor.{Cursor}
-use Rattle.reader.specs.declared.cursor.Step.{Step}
-use Rattle.reader.specs.declared.cursor.Step.TheVariants.{Head, Cell, Record, End, Refused}
-use Rattle.reader.proofs.Moving.{StepFrom, a_head, a_cell, a_record, step_from_lem}
+use Rattle.reader.specs.declared.cursor.Read.{Read}
+use Rattle.reader.proofs.Moving.{Beyond, StepFrom, read_beyond, step_from_lem}
 
 module _ (text : List ℕ) where
   -- ---- the state after n records
@@ -31,11 +31,9 @@ module _ (text : List ℕ) where
 
   -- ---- where the reader stops it stays
   stop_stays : {n : ℕ} {c : Cursor} {s : Sheet} → Reached n c s → (t : Step) → next_of text c ≡ t → Stops t → Reached (suc n) c s
-  stop_stays r (Head w m d) e h = absurd h
-  stop_stays r (Cell I d) e h = absurd h
-  stop_stays r (Record t d) e h = absurd h
-  stop_stays r End e h = reached_next r End e
-  stop_stays r (Refused q) e h = reached_next r (Refused q) e
+  stop_stays r (Ok (Some q)) e h = absurd h
+  stop_stays r (Ok None) e h = reached_next r (Ok None) e
+  stop_stays r (Err q) e h = reached_next r (Err q) e
 
   stays : {n : ℕ} {c : Cursor} {s : Sheet} → Reached n c s → Stops (next_of text c) → (k : ℕ) → Reached (n + k) c s
   stays {n} {c} {s} r h zero = let e : n + 0 ≡ n = omega arith in rw e r
@@ -54,11 +52,9 @@ module _ (text : List ℕ) where
   Taken n c = (Stops (next_of text c) → ⊥) → (n ≤ c.at) × (c.at ≤ length text)
 
   taken_next : (n : ℕ) (c : Cursor) → Taken n c → (t : Step) → next_of text c ≡ t → StepFrom text c t → Taken (suc n) (past t c)
-  taken_next n c k (Head w m d) e (a_head z f o) h = let u = k (λ s. subst Stops e s) in (omega (arith, o.past), o.within)
-  taken_next n c k (Cell I d) e (a_cell p f l o) h = let u = k (λ s. subst Stops e s) in (omega (arith, o.past), o.within)
-  taken_next n c k (Record t d) e (a_record p f l o) h = let u = k (λ s. subst Stops e s) in (omega (arith, o.past), o.within)
-  taken_next n c k End e g h = absurd (h (rw e tt))
-  taken_next n c k (Refused r) e g h = absurd (h (rw e tt))
+  taken_next n c k (Ok (Some r)) e g h = let u = k (λ s. subst Stops e s) in let o = read_beyond text c r g in (omega (arith, o.past), o.within)
+  taken_next n c k (Ok None) e g h = absurd (h (rw e tt))
+  taken_next n c k (Err r) e g h = absurd (h (rw e tt))
 
   taken : (n : ℕ) → Taken n (cursor_after n text)
   unfolding cursor_after after_of
@@ -66,18 +62,14 @@ module _ (text : List ℕ) where
   taken (suc n) h = taken_next n (cursor_after n text) (taken n) (next_of text (cursor_after n text)) refl (step_from_lem text (cursor_after n text)) h
 
   no_room : (c : Cursor) → length text ≤ c.at → (t : Step) → StepFrom text c t → (Stops t → ⊥) → ⊥
-  no_room c l (Head w m d) (a_head z f o) h = omega (arith, o.past, o.within)
-  no_room c l (Cell I d) (a_cell p f m o) h = omega (arith, o.past, o.within)
-  no_room c l (Record t d) (a_record p f m o) h = omega (arith, o.past, o.within)
-  no_room c l End g h = h tt
-  no_room c l (Refused r) g h = h tt
+  no_room c l (Ok (Some r)) g h = let o = read_beyond text c r g in omega (arith, o.past, o.within)
+  no_room c l (Ok None) g h = h tt
+  no_room c l (Err r) g h = h tt
 
   decided : (t : Step) → ((Stops t → ⊥) → ⊥) → Stops t
-  decided (Head w m d) h = h (λ s. s)
-  decided (Cell I d) h = h (λ s. s)
-  decided (Record t d) h = h (λ s. s)
-  decided End h = tt
-  decided (Refused r) h = tt
+  decided (Ok (Some r)) h = h (λ s. s)
+  decided (Ok None) h = tt
+  decided (Err r) h = tt
 
   pub read_stops : Stops (next_of text (cursor_after (length text) text))
   read_stops = let c = cursor_after (length text) text in decided (next_of text c) (λ h. no_room c (taken (length text) h).0 (next_of text c) (step_from_lem text c) h)
@@ -99,24 +91,20 @@ pub record Onward (text : List ℕ) (c d : Cursor) (s : Sheet) : Type 0 where
 
 -- after a step: the reading goes on, or the answer is known
 abbrev pub Follows : List ℕ → Cursor → Sheet → Step → Type 0
-Follows text c s (Head w m d) = Onward text c d (filled_by (Head w m d) s)
-Follows text c s (Cell I d) = Onward text c d (filled_by (Cell I d) s)
-Follows text c s (Record t d) = Onward text c d (filled_by (Record t d) s)
-Follows text c s End = read_of text ≡ read_by End s
-Follows text c s (Refused r) = read_of text ≡ refused_text r
+Follows text c s (Ok (Some r)) = Onward text c r.next (with_entry r.entry s)
+Follows text c s (Ok None) = read_of text ≡ read_sheet s
+Follows text c s (Err r) = read_of text ≡ refused_text r
 
 module _ (text : List ℕ) (c : Cursor) (s : Sheet) (r : Reading text c s) where
-  onward : (t : Step) → next_of text c ≡ t → c.at < (past t c).at → (past t c).at ≤ length text → Onward text c (past t c) (filled_by t s)
-  onward t e p q =
+  onward : (q : Read) → next_of text c ≡ Ok (Some q) → Beyond text c q.next → Onward text c q.next (with_entry q.entry s)
+  onward q e o =
       let b = r.bytes in
-      record { less = omega arith; reading = record { records = suc r.records; reached = reached_next text r.reached t e; bytes = omega arith; within = q } }
+      record { less = omega (arith, o.past, o.within); reading = record { records = suc r.records; reached = reached_next text r.reached (Ok (Some q)) e; bytes = omega (arith, o.past); within = o.within } }
 
   step_follows : (t : Step) → next_of text c ≡ t → StepFrom text c t → Follows text c s t
-  step_follows (Head w m d) e (a_head z f o) = onward (Head w m d) e o.past o.within
-  step_follows (Cell I d) e (a_cell p f l o) = onward (Cell I d) e o.past o.within
-  step_follows (Record t d) e (a_record p f l o) = onward (Record t d) e o.past o.within
-  step_follows End e g = rw e at (read_there text r.reached (omega (arith, r.bytes, r.within)) (rw e tt))
-  step_follows (Refused q) e g = rw e at (read_there text r.reached (omega (arith, r.bytes, r.within)) (rw e tt))
+  step_follows (Ok (Some q)) e g = onward q e (read_beyond text c q g)
+  step_follows (Ok None) e g = rw e at (read_there text r.reached (omega (arith, r.bytes, r.within)) (rw e tt))
+  step_follows (Err q) e g = rw e at (read_there text r.reached (omega (arith, r.bytes, r.within)) (rw e tt))
 
 pub follows : {text : List ℕ} {c : Cursor} {s : Sheet} → Reading text c s → Follows text c s (next_of text c)
 follows {text} {c} {s} r = step_follows text c s r (next_of text c) refl (step_from_lem text c)

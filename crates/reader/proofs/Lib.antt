@@ -11,6 +11,5 @@ pub mod Walking
 pub mod RoundTrip
 pub mod Tested
 pub mod Staying
-pub mod Stepping
 pub mod Replies
 pub mod Placing

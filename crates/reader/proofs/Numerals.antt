@@ -5,19 +5,22 @@ use mathlib.Core.List.{List, [], ◌∷◌, ◌++◌}
 use Prim.Native.Nat.{ℕ, zero, suc, ◌+◌, ◌*◌, ◌/◌, ◌%◌, ◌^◌, ◌≤◌, ◌<◌}
 use native.Mathlib.Nat.{pow-zero, pow-suc, mod-lt, div-lt_iff_lt-mul, div-add-mod'}
 use native.Mathlib.Omega.{arith}
+use mathlib.Core.Bool.{cond}
+use lib.Dec.{ltb}
 use borrow.Author.Tests.{eq-eqb, ne_eqb, lt-ltb, le-ltb}
 use lib.ListN.{length, get_or, length-append}
 use Rattle.ladder.proofs.Cases.{le_or_lt}
 use Rattle.reader.specs.Numbers.{digit_of, value_from, numeral_of, pattern_of, digits_for}
 use Rattle.reader.specs.Digits.{digit_byte, digits_of, digit_count, decimal_of, hex_of}
-use Rattle.reader.specs.declared.number.Number.TheVariants.{Value}
+use Rattle.std.specs.Prelude.{Option, Some, None}
+use Rattle.std.specs.Option.{option_and_then}
 
 -- ---- digits
-digit_back : (d : ℕ) → d < 16 → digit_of (digit_byte d) ≡ d
+digit_back : (d : ℕ) → d < 16 → digit_of (digit_byte d) ≡ Some d
 unfolding digit_of digit_byte
 digit_back d h = elim (le_or_lt 10 d) [
-  | inl a ↦ rw (le-ltb d 10 a, le-ltb (55 + d) 48 (omega arith), le-ltb (55 + d) 58 (omega arith), le-ltb (55 + d) 65 (omega arith), lt-ltb (55 + d) 71 (omega arith)) (omega arith)
-  | inr b ↦ rw (lt-ltb d 10 b, le-ltb (48 + d) 48 (omega arith), lt-ltb (48 + d) 58 (omega arith)) (omega arith)
+  | inl a ↦ rw (le-ltb d 10 a, le-ltb (55 + d) 48 (omega arith), le-ltb (55 + d) 58 (omega arith), le-ltb (55 + d) 65 (omega arith), lt-ltb (55 + d) 71 (omega arith)) (ap Some (omega arith))
+  | inr b ↦ rw (lt-ltb d 10 b, le-ltb (48 + d) 48 (omega arith), lt-ltb (48 + d) 58 (omega arith)) (ap Some (omega arith))
 ]
 
 -- no digit's byte is below 48, and 48 is that of 0 alone
@@ -38,35 +41,40 @@ digits_length base zero n = refl
 digits_length base (suc k) n = simp (length-append, digits_length base k (n / base)) (omega arith)
 
 -- one digit more
-value_more : (base v w d : ℕ) (xs : List ℕ) → value_from base v xs ≡ Value w → d < base → base ≤ 16 → value_from base v (xs ++ (digit_byte d ∷ [])) ≡ Value (w * base + d)
+digit_then : (base w d v : ℕ) (xs ys : List ℕ) → ((c : ℕ) → value_from base (v * base + c) xs ≡ Some w → value_from base (v * base + c) ys ≡ Some (w * base + d)) → (o : Option ℕ) →
+    option_and_then (λ c. cond (ltb c base) (value_from base (v * base + c) xs) None) o ≡ Some w → option_and_then (λ c. cond (ltb c base) (value_from base (v * base + c) ys) None) o ≡ Some (w * base + d)
+digit_then base w d v xs ys more None e = cc
+digit_then base w d v xs ys more (Some c) e = elim (le_or_lt base c) [
+  | inl a ↦ cc (rw (le-ltb c base a) at e)
+  | inr b ↦ rw (lt-ltb c base b) (more c (rw (lt-ltb c base b) at e))
+]
+
+value_more : (base v w d : ℕ) (xs : List ℕ) → value_from base v xs ≡ Some w → d < base → base ≤ 16 → value_from base v (xs ++ (digit_byte d ∷ [])) ≡ Some (w * base + d)
 unfolding value_from
 value_more base v w d [] e h k =
     let f : v ≡ w = cc in
     rw (digit_back d (omega arith), lt-ltb d base h, f)
-value_more base v w d (x ∷ xs) e h k = elim (le_or_lt base (digit_of x)) [
-  | inl a ↦ let z : ◌≡◌ {A = ℕ} 0 1 = cc (rw (le-ltb (digit_of x) base a) at e) in absurd (omega arith)
-  | inr b ↦ rw (lt-ltb (digit_of x) base b) (value_more base (v * base + digit_of x) w d xs (rw (lt-ltb (digit_of x) base b) at e) h k)
-]
+value_more base v w d (x ∷ xs) e h k = digit_then base w d v xs (xs ++ (digit_byte d ∷ [])) (λ c f. value_more base (v * base + c) w d xs f h k) (digit_of x) e
 
 -- digits enough to hold the number
-value_back : (base k n : ℕ) → 0 < base → base ≤ 16 → n < base ^ k → value_from base 0 (digits_of base k n) ≡ Value n
+value_back : (base k n : ℕ) → 0 < base → base ≤ 16 → n < base ^ k → value_from base 0 (digits_of base k n) ≡ Some n
 unfolding value_from digits_of
-value_back base zero n p q h = ap Value (let e = pow-zero base in omega arith)
+value_back base zero n p q h = ap Some (let e = pow-zero base in omega arith)
 value_back base (suc k) n p q h =
     value_more base 0 (n / base) (n % base) (digits_of base k (n / base)) (value_back base k (n / base) p q ((div-lt_iff_lt-mul p).1 (rw (pow-suc base k) at h))) (mod-lt n p) q
-    ∙ ap Value (div-add-mod' n base)
+    ∙ ap Some (div-add-mod' n base)
 
 -- ---- a pattern
-pub pattern_back : (width n : ℕ) → n < 16 ^ digits_for width → pattern_of width (hex_of width n) ≡ Value n
+pub pattern_back : (width n : ℕ) → n < 16 ^ digits_for width → pattern_of width (hex_of width n) ≡ Some n
 unfolding pattern_of hex_of
 pattern_back width n h = rw (eq-eqb (length (digits_of 16 (digits_for width) n)) (digits_for width) (digits_length 16 (digits_for width) n)) (value_back 16 (digits_for width) n (omega arith) (omega arith) h)
 
 -- ---- a numeral
-numeral_one : (n : ℕ) → n < 10 → numeral_of (digits_of 10 1 n) ≡ Value n
+numeral_one : (n : ℕ) → n < 10 → numeral_of (digits_of 10 1 n) ≡ Some n
 unfolding numeral_of
 numeral_one n h = rw (eq-eqb (length (digits_of 10 1 n)) 1 (digits_length 10 1 n)) (value_back 10 1 n (omega arith) (omega arith) (omega arith))
 
-numeral_more : (k n : ℕ) → 2 ≤ k → k ≤ 5 → n < 10 ^ k → (get_or (digits_of 10 k n) 0 0 ≡ 48 → ⊥) → numeral_of (digits_of 10 k n) ≡ Value n
+numeral_more : (k n : ℕ) → 2 ≤ k → k ≤ 5 → n < 10 ^ k → (get_or (digits_of 10 k n) 0 0 ≡ 48 → ⊥) → numeral_of (digits_of 10 k n) ≡ Some n
 unfolding numeral_of
 numeral_more k n a b h z =
     let e = digits_length 10 k n in
@@ -78,7 +86,7 @@ record Short (n : ℕ) : Type 0 where
   size : ℕ
   is : digit_count 19 n ≡ size
   few : size ≤ 5
-  reads : numeral_of (digits_of 10 size n) ≡ Value n
+  reads : numeral_of (digits_of 10 size n) ≡ Some n
 
 short : (n : ℕ) → n < 100000 → Short n
 unfolding digit_count digits_of
@@ -96,7 +104,7 @@ short n h = elim (le_or_lt 10 n) [
   ]
 ]
 
-pub numeral_back : (n : ℕ) → n < 100000 → numeral_of (decimal_of n) ≡ Value n
+pub numeral_back : (n : ℕ) → n < 100000 → numeral_of (decimal_of n) ≡ Some n
 unfolding decimal_of
 numeral_back n h = let s = short n h in rw s.is s.reads
 

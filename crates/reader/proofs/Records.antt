@@ -1,22 +1,22 @@
 -- What is written as a line is read as its record: the head, a cell, a record over cells. Rests on specs/Texts, Numerals and Fields.
 use mathlib.Core.Path.{◌≡◌, refl, sym, ap₂, ◌∙◌}
-use mathlib.Core.Logic.{inl, inr}
 use mathlib.Core.Bool.{Bool, true, false, cond, and-eq-true_iff}
 use mathlib.Core.List.{◌∷◌, ◌++◌}
-use Prim.Native.Nat.{ℕ, ◌*◌, ◌^◌, ◌≤◌, ◌<◌}
+use Prim.Native.Nat.{ℕ, ◌^◌, ◌≤◌, ◌<◌}
 use native.Mathlib.Omega.{arith}
 use lib.Dec.{eqb}
 use lib.ListN.{length, length-append}
 use borrow.Author.Tests.{ne_eqb}
 use Rattle.ladder.specs.Ordinal as L
-use Rattle.ladder.proofs.Cases.{le_or_lt}
-use Rattle.ladder.proofs.Ordinals.{finite_high, infinity_lt_sign}
 use Rattle.arith.specs.declared.interval.Interval.{Interval}
-use Rattle.arith.specs.Formats.{binary, format_of, is_finite}
+use Rattle.arith.specs.Formats.{binary, fits32, fits64, format_of, is_finite}
 use Rattle.arith.specs.Intervals.{ends_finite}
 use Rattle.sheet.specs.declared.kept.Record.{Record}
-use Rattle.sheet.specs.Records.{Kind, sum, diff, neg, kind_of}
+use Rattle.sheet.specs.declared.kind.Kind.{Kind}
+use Rattle.sheet.specs.declared.kind.Kind.TheVariants.{Sum, Diff, Neg}
+use Rattle.sheet.specs.Kinds.{kind_of}
 use Rattle.sheet.specs.Faults.{cell_fault}
+use Rattle.arith.proofs.Formats.{finite_fits}
 use Rattle.sheet.proofs.Cells.{fault_free}
 use Rattle.sheet.proofs.Records.{Kinded, a_sum, a_diff, a_neg, kinded}
 use Rattle.reader.specs.Bytes.{index_of, before, after, is_same}
@@ -24,55 +24,50 @@ use Rattle.reader.specs.Numbers.{digits_for}
 use Rattle.reader.specs.Digits.{digits_of, decimal_of, hex_of}
 use Rattle.reader.specs.Lines.{tab, feed, head_from, cell_from, triple_from, pair_from, head_in, cell_in, triple_in, pair_in, record_in, line_of}
 use Rattle.reader.specs.Texts.{head_text, cell_text, pair_text, triple_text, kind_text, record_text}
-use Rattle.reader.specs.declared.line.Line.TheVariants as Line
+use Rattle.std.specs.Prelude.{Some, Ok}
+use Rattle.reader.specs.declared.entry.Entry.TheVariants as Entry
 use Rattle.reader.proofs.Numerals.{numeral_back, pattern_back, decimal_short, digits_length}
 use Rattle.reader.proofs.Fields.{Free, free_append, before_free, after_free, decimal_free, hex_free}
 
 -- ---- patterns have room in their digits
-finite_bound : (f e p : ℕ) → L.is_finite f e p ≡ true → p < 2 * L.sign f e
-finite_bound f e p h = elim (le_or_lt (L.sign f e) p) [
-  | inl l ↦ omega (arith, finite_high f e p h l, infinity_lt_sign f e)
-  | inr l ↦ omega arith
-]
-
 pattern_small : (w p : ℕ) → is_finite (format_of w) p ≡ true → p < 16 ^ digits_for w
 unfolding digits_for L.sign
 pattern_small w p = go (eqb w 32)
   where
-    go : (t : Bool) → is_finite (cond t (binary 23 8) (binary 52 11)) p ≡ true → p < 16 ^ cond t 8 16
-    go true h = finite_bound 23 8 p h
-    go false h = finite_bound 52 11 p h
+    go : (t : Bool) → is_finite (cond t (binary 23 8 fits32) (binary 52 11 fits64)) p ≡ true → p < 16 ^ cond t 8 16
+    go true h = finite_fits (binary 23 8 fits32) fits32 p h
+    go false h = finite_fits (binary 52 11 fits64) fits64 p h
 
 -- both ends of a cell without a fault
 pub record Small (w : ℕ) (I : Interval) : Type 0 where
   pub low : I.low < 16 ^ digits_for w
   pub high : I.high < 16 ^ digits_for w
 
-pub cell_small : (w : ℕ) (I : Interval) → cell_fault w I ≡ 0 → Small w I
+pub cell_small : (w : ℕ) (I : Interval) → cell_fault w I ≡ Ok tt → Small w I
 unfolding ends_finite
 cell_small w I z =
     let e = (and-eq-true_iff (is_finite (format_of w) I.low) (is_finite (format_of w) I.high)).0 (fault_free w I z).finite in
     record { low = pattern_small w I.low e.0; high = pattern_small w I.high e.1 }
 
 -- ---- the head
-head_fields : (w m : ℕ) → w < 100000 → m < 100000 → head_in (decimal_of w ++ (tab ∷ decimal_of m)) ≡ Line.Head w m
+head_fields : (w m : ℕ) → w < 100000 → m < 100000 → head_in (decimal_of w ++ (tab ∷ decimal_of m)) ≡ Some (Entry.Head w m)
 unfolding head_in head_from
 head_fields w m h k =
     let f = decimal_free tab w (omega arith) in
     rw (before_free tab (decimal_of w) (decimal_of m) f, after_free tab (decimal_of w) (decimal_of m) f, numeral_back w h, numeral_back m k)
 
-pub head_back : (kept w m : ℕ) → w < 100000 → m < 100000 → line_of 0 kept (head_text w m) ≡ Line.Head w m
+pub head_back : (kept w m : ℕ) → w < 100000 → m < 100000 → line_of 0 kept (head_text w m) ≡ Some (Entry.Head w m)
 unfolding line_of head_text before after index_of is_same
 head_back kept w m h k = head_fields w m h k
 
 -- ---- a cell
-cell_fields : (w : ℕ) (I : Interval) → Small w I → cell_in w (hex_of w I.low ++ (tab ∷ hex_of w I.high)) ≡ Line.Cell I
+cell_fields : (w : ℕ) (I : Interval) → Small w I → cell_in w (hex_of w I.low ++ (tab ∷ hex_of w I.high)) ≡ Some (Entry.Cell I)
 unfolding cell_in cell_from
 cell_fields w I s =
     let f = hex_free tab w I.low (omega arith) in
     rw (before_free tab (hex_of w I.low) (hex_of w I.high) f, after_free tab (hex_of w I.low) (hex_of w I.high) f, pattern_back w I.low s.low, pattern_back w I.high s.high)
 
-pub cell_back : (at w : ℕ) (I : Interval) → 0 < at → Small w I → line_of at w (cell_text w I) ≡ Line.Cell I
+pub cell_back : (at w : ℕ) (I : Interval) → 0 < at → Small w I → line_of at w (cell_text w I) ≡ Some (Entry.Cell I)
 unfolding line_of cell_text before after index_of is_same
 cell_back at w I p s = rw (ne_eqb at 0 (λ e. omega arith)) (cell_fields w I s)
 
@@ -81,10 +76,10 @@ pub record Few (t : Record) : Type 0 where
   pub x : t.x < 100000
   pub a : t.a < 100000
   pub b : t.b < 100000
-  pub third : kind_of t.kind ≡ neg → t.b ≡ 0
+  pub third : kind_of t.kind ≡ Neg → t.b ≡ 0
   pub kind : t.kind < 3
 
-triple_fields : (k : ℕ) (t : Record) → Few t → triple_in k (triple_text t) ≡ Line.Record (record { kind = k; x = t.x; a = t.a; b = t.b })
+triple_fields : (k : ℕ) (t : Record) → Few t → triple_in k (triple_text t) ≡ Some (Entry.Record (record { kind = k; x = t.x; a = t.a; b = t.b }))
 unfolding triple_in triple_from
 triple_fields k t s =
     let f = decimal_free tab t.x (omega arith) in
@@ -99,23 +94,23 @@ triple_fields k t s =
       numeral_back t.b s.b,
     )
 
-pair_fields : (t : Record) → Few t → pair_in (pair_text t.x t.a) ≡ Line.Record (record { kind = 2; x = t.x; a = t.a; b = 0 })
+pair_fields : (t : Record) → Few t → pair_in (pair_text t.x t.a) ≡ Some (Entry.Record (record { kind = 2; x = t.x; a = t.a; b = 0 }))
 unfolding pair_in pair_from
 pair_fields t s =
     let f = decimal_free tab t.x (omega arith) in
     rw (before_free tab (decimal_of t.x) (decimal_of t.a) f, after_free tab (decimal_of t.x) (decimal_of t.a) f, numeral_back t.x s.x, numeral_back t.a s.a)
 
 -- with the number of the kind
-as_read : (t : Record) (k b : ℕ) → k ≡ t.kind → b ≡ t.b → Line.Record (record { kind = k; x = t.x; a = t.a; b = b }) ≡ Line.Record t
-as_read t k b h q = ap₂ (λ (n m : ℕ). Line.Record (record { kind = n; x = t.x; a = t.a; b = m })) h q
+as_read : (t : Record) (k b : ℕ) → k ≡ t.kind → b ≡ t.b → Some (Entry.Record (record { kind = k; x = t.x; a = t.a; b = b })) ≡ Some (Entry.Record t)
+as_read t k b h q = ap₂ (λ (n m : ℕ). Some (Entry.Record (record { kind = n; x = t.x; a = t.a; b = m }))) h q
 
-kind_back : (at w : ℕ) (t : Record) → 0 < at → Few t → Kinded t.kind → line_of at w (kind_text (kind_of t.kind) t) ≡ Line.Record t
+kind_back : (at w : ℕ) (t : Record) → 0 < at → Few t → Kinded t.kind → line_of at w (kind_text (kind_of t.kind) t) ≡ Some (Entry.Record t)
 unfolding line_of record_in before after index_of is_same
 kind_back at w t p s (a_sum z k) = rw (k, ne_eqb at 0 (λ e. omega arith)) (triple_fields 0 t s ∙ as_read t 0 t.b (sym z) refl)
 kind_back at w t p s (a_diff z k) = rw (k, ne_eqb at 0 (λ e. omega arith)) (triple_fields 1 t s ∙ as_read t 1 t.b (sym z) refl)
 kind_back at w t p s (a_neg l k) = rw (k, ne_eqb at 0 (λ e. omega arith)) (pair_fields t s ∙ as_read t 2 0 (omega (arith, l, s.kind)) (sym (s.third k)))
 
-pub record_back : (at w : ℕ) (t : Record) → 0 < at → Few t → line_of at w (record_text t) ≡ Line.Record t
+pub record_back : (at w : ℕ) (t : Record) → 0 < at → Few t → line_of at w (record_text t) ≡ Some (Entry.Record t)
 unfolding record_text
 record_back at w t p s = kind_back at w t p s (kinded t.kind)
 
@@ -140,9 +135,9 @@ triple_free : (t : Record) → Free feed (triple_text t)
 triple_free t = free_append feed (decimal_of t.x) (tab ∷ pair_text t.a t.b) (digits_only t.x) (λ e. omega arith, pair_free t.a t.b)
 
 kind_free : (k : Kind) (t : Record) → Free feed (kind_text k t)
-kind_free sum t = (λ e. omega arith, (λ e. omega arith, (λ e. omega arith, (λ e. omega arith, triple_free t))))
-kind_free diff t = (λ e. omega arith, (λ e. omega arith, (λ e. omega arith, (λ e. omega arith, (λ e. omega arith, triple_free t)))))
-kind_free neg t = (λ e. omega arith, (λ e. omega arith, (λ e. omega arith, (λ e. omega arith, pair_free t.x t.a))))
+kind_free Sum t = (λ e. omega arith, (λ e. omega arith, (λ e. omega arith, (λ e. omega arith, triple_free t))))
+kind_free Diff t = (λ e. omega arith, (λ e. omega arith, (λ e. omega arith, (λ e. omega arith, (λ e. omega arith, triple_free t)))))
+kind_free Neg t = (λ e. omega arith, (λ e. omega arith, (λ e. omega arith, (λ e. omega arith, pair_free t.x t.a))))
 
 pub record_free : (t : Record) → Free feed (record_text t)
 unfolding record_text
@@ -169,9 +164,9 @@ triple_length : (t : Record) → Few t → length (triple_text t) ≤ 17
 triple_length t s = simp length-append (omega (arith, decimal_short t.x s.x, decimal_short t.a s.a, decimal_short t.b s.b))
 
 kind_length : (k : Kind) (t : Record) → Few t → length (kind_text k t) ≤ 22
-kind_length sum t s = omega (arith, triple_length t s)
-kind_length diff t s = omega (arith, triple_length t s)
-kind_length neg t s = simp length-append (omega (arith, decimal_short t.x s.x, decimal_short t.a s.a))
+kind_length Sum t s = omega (arith, triple_length t s)
+kind_length Diff t s = omega (arith, triple_length t s)
+kind_length Neg t s = simp length-append (omega (arith, decimal_short t.x s.x, decimal_short t.a s.a))
 
 pub record_length : (t : Record) → Few t → length (record_text t) ≤ 22
 unfolding record_text

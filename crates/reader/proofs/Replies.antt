@@ -5,23 +5,25 @@ use mathlib.Core.List.{List}
 use Prim.Native.Nat.{ℕ}
 use lib.Dec.{eqb, ltb}
 use lib.ListN.{length, drop}
-use Rattle.arith.specs.Answers.{Reply}
+use Rattle.arith.specs.Answers.{Reply, refuses}
+use Rattle.arith.specs.declared.refusal.Reason.{Reason}
+use Rattle.arith.specs.Refusals.{refusal_at, tested}
 use Rattle.arith.specs.Replies.{reply_after}
 use Rattle.arith.proofs.Replies.{on_test}
 use Rattle.sheet.specs.declared.kept.Sheet.{Sheet}
 use Rattle.sheet.specs.declared.kept.Kept.{Kept}
-use Rattle.sheet.specs.Faults.{head_fault, cell_fault, record_fault}
-use Rattle.sheet.specs.Sheets.{blank}
+use Rattle.sheet.specs.Faults.{Fault, head_fault, cell_fault, record_fault}
+use Rattle.sheet.specs.Sheets.{reason_of, blank}
 use Rattle.sheet.specs.Replies.{kept_told}
 use Rattle.reader.specs.Bytes.{index_of, before}
 use Rattle.reader.specs.Lines.{feed, line_of}
-use Rattle.reader.specs.Steps.{head_step, cell_step, record_step, admitted, past_line, step_at, next_of, past, after_of}
+use Rattle.std.specs.Prelude.{Option, Some, None, Result, Ok, Err, is_ok}
+use Rattle.std.specs.Result.{result_and}
+use Rattle.reader.specs.Steps.{Step, head_step, cell_step, record_step, counted, step_by, admitted, past_line, step_at, next_of, past, after_of}
 use Rattle.reader.specs.Replies.{step_told, line_tests, line_values, reply_at, reply_next, Tells}
 use Rattle.reader.specs.Readings.{sheet_after, read_by, stop_of, read_of, ReadsText}
-use Rattle.reader.specs.declared.line.Line.{Line}
+use Rattle.reader.specs.declared.entry.Entry.{Entry}
 use Rattle.reader.specs.declared.cursor.Cursor.{Cursor}
-use Rattle.reader.specs.declared.cursor.Step.{Step}
-use Rattle.reader.specs.declared.cursor.Step.TheVariants.{Head, Cell, Record, End, Refused}
 use Rattle.reader.proofs.Staying.{stays_ended}
 
 -- ---- one test
@@ -31,15 +33,30 @@ not_told true a b e f = e
 not_told false a b e f = f
 
 -- ---- a line
-line_told : (l : Line) (n : ℕ) (c : Cursor) → step_told (admitted l c.line (past_line n c)) ≡ reply_after (line_tests l c) (line_values l)
-unfolding admitted head_step cell_step record_step
-line_told (Line.Head w m) n c = on_test step_told (eqb (head_fault w m) 0) _ _ (λ _. refl) refl
-line_told (Line.Cell I) n c = on_test step_told (eqb (cell_fault c.width I) 0) _ _ (λ _. on_test step_told (ltb c.cell_count 64) _ _ (λ _. refl) refl) refl
-line_told (Line.Record t) n c = on_test step_told (eqb (record_fault c.cell_count t) 0) _ _ (λ _. on_test step_told (ltb c.record_count 128) _ _ (λ _. refl) refl) refl
-line_told Line.Malformed n c = refl
+-- what the cursor after an entry tells
+abbrev told_by : Entry → ℕ → Result Cursor Reason → Reply ℕ
+told_by e line r = step_told (step_by e line r)
+
+-- a fault refuses at the line; where there is none, what stands behind it tells
+fault_told : (e : Entry) (line : ℕ) (f : Fault) (rest : Result Cursor Reason) {due : Reply ℕ} → told_by e line rest ≡ due → told_by e line (result_and f rest) ≡ cond (is_ok f) due (refuses (refusal_at (reason_of f) line))
+fault_told e line (Ok u) rest t = t
+fault_told e line (Err reason) rest t = refl
+
+-- the same of a test
+test_told : (e : Entry) (line : ℕ) (ok : Bool) (reason : Reason) (rest : Result Cursor Reason) {due : Reply ℕ} → told_by e line rest ≡ due → told_by e line (result_and (tested ok reason) rest) ≡ cond ok due (refuses (refusal_at reason line))
+test_told e line true reason rest t = t
+test_told e line false reason rest t = refl
+
+line_told : (l : Option Entry) (n : ℕ) (c : Cursor) → step_told (admitted l c.line (past_line n c)) ≡ reply_after (line_tests l c) (line_values l)
+unfolding admitted counted head_step cell_step record_step
+line_told (Some (Entry.Head w m)) n c = fault_told (Entry.Head w m) c.line (head_fault w m) _ refl
+line_told (Some (Entry.Cell I)) n c = fault_told (Entry.Cell I) c.line (cell_fault c.width I) _ (test_told (Entry.Cell I) c.line (ltb c.cell_count 64) Reason.Full _ refl)
+line_told (Some (Entry.Record t)) n c = fault_told (Entry.Record t) c.line (record_fault c.cell_count t) _ (test_told (Entry.Record t) c.line (ltb c.record_count 128) Reason.Full _ refl)
+line_told None n c = refl
 
 -- ---- a text
-at_told : (ahead : List ℕ) (c : Cursor) → step_told (step_at ahead c) ≡ reply_at ahead c
+pub at_told : (ahead : List ℕ) (c : Cursor) → step_told (step_at ahead c) ≡ reply_at ahead c
+unfolding step_at reply_at
 at_told ahead c =
     on_test step_told (ltb (index_of feed ahead) (length ahead)) _ _
     (λ _. line_told (line_of c.at c.width (before feed ahead)) (index_of feed ahead) c)
@@ -51,11 +68,9 @@ next_told text c = on_test step_told (ltb 8192 (length text)) _ _ (λ _. refl) (
 
 -- a refused record is stayed at, by the number that its step tells
 past_refused : (s : Step) (c : Cursor) → ((step_told s).number ≡ 0 → ⊥) → past s c ≡ c
-past_refused (Head w m next) c n = absurd (n refl)
-past_refused (Cell I next) c n = absurd (n refl)
-past_refused (Record t next) c n = absurd (n refl)
-past_refused End c n = refl
-past_refused (Refused r) c n = refl
+past_refused (Ok (Some r)) c n = absurd (n refl)
+past_refused (Ok None) c n = refl
+past_refused (Err r) c n = refl
 
 pub step_tells : (text : List ℕ) (c : Cursor) → Tells text c (next_of text c) (after_of text c)
 unfolding after_of
@@ -63,25 +78,18 @@ step_tells text c = record { told = next_told text c; refused = past_refused (ne
 
 -- ---- a whole text, by the step at which its reader stops
 stop_number : (t : Step) (s : Sheet) → (kept_told (read_by t s)).number ≡ (step_told t).number
-stop_number (Head w m next) s = refl
-stop_number (Cell I next) s = refl
-stop_number (Record t next) s = refl
-stop_number End s = refl
-stop_number (Refused r) s = refl
+stop_number (Ok (Some r)) s = refl
+stop_number (Ok None) s = refl
+stop_number (Err r) s = refl
 
 stop_place : (t : Step) (s : Sheet) → (kept_told (read_by t s)).place ≡ (step_told t).place
-stop_place (Head w m next) s = refl
-stop_place (Cell I next) s = refl
-stop_place (Record t next) s = refl
-stop_place End s = refl
-stop_place (Refused r) s = refl
+stop_place (Ok (Some r)) s = refl
+stop_place (Ok None) s = refl
+stop_place (Err r) s = refl
 
 stop_refused : (t : Step) (s : Sheet) → ((kept_told (read_by t s)).number ≡ 0 → ⊥) → (read_by t s).sheet ≡ blank 0 0
-stop_refused (Head w m next) s n = absurd (n refl)
-stop_refused (Cell I next) s n = absurd (n refl)
-stop_refused (Record t next) s n = absurd (n refl)
-stop_refused End s n = absurd (n refl)
-stop_refused (Refused r) s n = refl
+stop_refused (Ok r) s n = absurd (n refl)
+stop_refused (Err r) s n = refl
 
 pub text_read : (text : List ℕ) {k : Kept} → k ≡ read_of text → ReadsText text k
 unfolding read_of

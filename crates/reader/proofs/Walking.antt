@@ -9,7 +9,7 @@ use borrow.Author.Tests.{le-ltb, lt-ltb}
 use Rattle.sheet.specs.declared.kept.Sheet.{Sheet}
 use Rattle.reader.specs.Bytes.{count_of}
 use Rattle.reader.specs.Lines.{feed, line_of}
-use Rattle.reader.specs.Steps.{admitted, line_after, next_of}
+use Rattle.reader.specs.Steps.{admitted, line_after, step_at, next_of}
 use Rattle.reader.specs.Texts.{text_lines}
 use Rattle.reader.specs.declared.cursor.Cursor.{Cursor}
 use Rattle.reader.proofs.Following.{Reached}
@@ -35,7 +35,7 @@ pub next_line :
     (read line rest : List ℕ) (w i j : ℕ) → Free feed line → length (read ++ (line ++ (feed ∷ rest))) ≤ 8192 →
     next_of (read ++ (line ++ (feed ∷ rest))) (after read w i j)
     ≡ admitted (line_of (length read) w line) (count_of feed read + 1) (after (read ++ (line ++ (feed ∷ []))) w i j)
-unfolding next_of
+unfolding next_of step_at
 next_line read line rest w i j f h =
     let l : length line < length (line ++ (feed ∷ rest)) = simp length-append (omega arith) in
     rw (le-ltb 8192 (length (read ++ (line ++ (feed ∷ rest)))) h, drop-append_seam read (line ++ (feed ∷ rest)), index_free feed line rest f, before_free feed line rest f, lt-ltb (length line) (length (line ++ (feed ∷ rest))) l, length_line read line, line_line read line f (omega (arith, length-append read (line ++ (feed ∷ rest)))))

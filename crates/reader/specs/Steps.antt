@@ -1,55 +1,72 @@
 -- What 01's reader gives at a cursor: the record there, the end of the text, or a refusal with its line. Assumes nothing.
-use Rattle.std.specs.Prelude.{ℕ, zero, suc, ◌+◌, min, cond, List, [], length, take, drop, eqb, ltb}
+use Rattle.std.specs.Prelude.{ℕ, zero, suc, ◌+◌, min, cond, List, [], length, take, drop, eqb, ltb, Option, Some, None, Result, Ok, Err}
 use Rattle.arith.specs.declared.interval.Interval.{Interval}
+use Rattle.std.specs.Result.{result_and}
+use Rattle.arith.specs.declared.refusal.Reason.{Reason}
+use Rattle.arith.specs.declared.refusal.Refusal.{Refusal}
+use Rattle.arith.specs.Refusals.{refusal_at, tested}
 use Rattle.sheet.specs.declared.kept.Record.{Record}
 use Rattle.sheet.specs.Faults.{head_fault, cell_fault, record_fault}
 use Rattle.reader.specs.Bytes.{index_of, before, count_of}
 use Rattle.reader.specs.Lines.{feed, line_of}
-use Rattle.reader.specs.declared.line.Line.{Line}
+use Rattle.reader.specs.declared.entry.Entry.{Entry}
 use Rattle.reader.specs.declared.cursor.Cursor.{Cursor}
+use Rattle.reader.specs.declared.cursor.Read.{Read}
 use Rattle.reader.specs.declared.cursor.Moved.{Moved}
-use Rattle.reader.specs.declared.cursor.Step.{Step}
+
+-- what stands at a cursor: a record, none at the end of the text, or a refusal
+abbrev pub Step : Type 0
+Step = Result (Option Read) Refusal
 
 -- the cursor at the start of a text
 abbrev pub start : Cursor
 start = record { at = 0; line = 1; width = 0; cell_count = 0; record_count = 0 }
 
 -- a refusal, with the line as its place
-abbrev pub refused_at : ℕ → ℕ → Step
-refused_at n line = Step.Refused (record { number = n; place = line })
+abbrev pub refused_at : Reason → ℕ → Step
+refused_at reason line = Err (refusal_at reason line)
 
--- ---- a record whose line is well formed; the cursor c stands past the line, with the record not yet counted
+-- ---- the cursor after a record whose line is well formed; the cursor c stands past the line, with the record not yet counted
 -- a head, in the order of opening: 1, 7. Cells and records are counted from it on
-unfoldable pub head_step : ℕ → ℕ → ℕ → Cursor → Step
-head_step w m line c =
-    cond (eqb (head_fault w m) 0)
-    (Step.Head w m (record { at = c.at; line = c.line; width = w; cell_count = 0; record_count = 0 }))
-    (refused_at (head_fault w m) line)
+unfoldable pub head_step : ℕ → ℕ → Cursor → Result Cursor Reason
+head_step w m c =
+    result_and (head_fault w m)
+    (Ok (record { at = c.at; line = c.line; width = w; cell_count = 0; record_count = 0 }))
 
 -- a cell, in the order of adding: 2, 3, 10
-unfoldable pub cell_step : Interval → ℕ → Cursor → Step
-cell_step I line c =
-    cond (eqb (cell_fault c.width I) 0)
-    (cond (ltb c.cell_count 64)
-    (Step.Cell I (record { at = c.at; line = c.line; width = c.width; cell_count = c.cell_count + 1; record_count = c.record_count }))
-    (refused_at 10 line))
-    (refused_at (cell_fault c.width I) line)
+unfoldable pub cell_step : Interval → Cursor → Result Cursor Reason
+cell_step I c =
+    result_and (cell_fault c.width I)
+    (result_and (tested (ltb c.cell_count 64) Reason.Full)
+    (Ok (record { at = c.at; line = c.line; width = c.width; cell_count = c.cell_count + 1; record_count = c.record_count })))
 
 -- a record over cells, in the order of adding: 5, 10; its kind is that of its word, so there is no 4
-unfoldable pub record_step : Record → ℕ → Cursor → Step
-record_step t line c =
-    cond (eqb (record_fault c.cell_count t) 0)
-    (cond (ltb c.record_count 128)
-    (Step.Record t (record { at = c.at; line = c.line; width = c.width; cell_count = c.cell_count; record_count = c.record_count + 1 }))
-    (refused_at 10 line))
-    (refused_at (record_fault c.cell_count t) line)
+unfoldable pub record_step : Record → Cursor → Result Cursor Reason
+record_step t c =
+    result_and (record_fault c.cell_count t)
+    (result_and (tested (ltb c.record_count 128) Reason.Full)
+    (Ok (record { at = c.at; line = c.line; width = c.width; cell_count = c.cell_count; record_count = c.record_count + 1 })))
+
+-- each entry by its own
+unfoldable pub counted : Entry → Cursor → Result Cursor Reason
+counted (Entry.Head w m) c = head_step w m c
+counted (Entry.Cell I) c = cell_step I c
+counted (Entry.Record t) c = record_step t c
 
 -- ---- a line: 4, and after it the refusals of its record
-unfoldable pub admitted : Line → ℕ → Cursor → Step
-admitted (Line.Head w m) line c = head_step w m line c
-admitted (Line.Cell I) line c = cell_step I line c
-admitted (Line.Record t) line c = record_step t line c
-admitted Line.Malformed line c = refused_at 4 line
+-- an entry with the cursor after it
+abbrev pub read_step : Entry → Cursor → Step
+read_step e d = Ok (Some (record { entry = e; next = d }))
+
+-- the same, or the refusal of the reason at the line
+abbrev pub step_by : Entry → ℕ → Result Cursor Reason → Step
+step_by e line (Ok d) = read_step e d
+step_by e line (Err reason) = refused_at reason line
+
+-- what a line gives: 4 where it is malformed, else its entry, counted
+unfoldable pub admitted : Option Entry → ℕ → Cursor → Step
+admitted (Some e) line c = step_by e line (counted e c)
+admitted None line c = refused_at Reason.Malformed line
 
 -- the line after a line; the greatest number that a cursor can keep is stayed at
 unfoldable pub line_after : ℕ → ℕ
@@ -61,23 +78,21 @@ past_line n c = record { at = c.at + n + 1; line = line_after c.line; width = c.
 
 -- ---- a text
 -- with `ahead` still to be read: a line, or where no line feed is left, the end: 4 for bytes without a line feed and for a text without a head. A refusal's line is the one that the cursor keeps
-abbrev pub step_at : List ℕ → Cursor → Step
+unfoldable pub step_at : List ℕ → Cursor → Step
 step_at ahead c =
     cond (ltb (index_of feed ahead) (length ahead))
     (admitted (line_of c.at c.width (before feed ahead)) c.line (past_line (index_of feed ahead) c))
-    (cond (eqb (length ahead) 0) (cond (eqb c.at 0) (refused_at 4 c.line) Step.End) (refused_at 4 c.line))
+    (cond (eqb (length ahead) 0) (cond (eqb c.at 0) (refused_at Reason.Malformed c.line) (Ok None)) (refused_at Reason.Malformed c.line))
 
 -- what stands at the cursor: 8, then the line there
 unfoldable pub next_of : List ℕ → Cursor → Step
-next_of text c = cond (ltb 8192 (length text)) (refused_at 8 0) (step_at (drop c.at text) c)
+next_of text c = cond (ltb 8192 (length text)) (refused_at Reason.TooLong 0) (step_at (drop c.at text) c)
 
 -- the cursor after a step: a refused record and the end are stayed at
 abbrev pub past : Step → Cursor → Cursor
-past (Step.Head w m next) c = next
-past (Step.Cell I next) c = next
-past (Step.Record t next) c = next
-past Step.End c = c
-past (Step.Refused r) c = c
+past (Ok (Some r)) c = r.next
+past (Ok None) c = c
+past (Err r) c = c
 
 -- the cursor after the record at the cursor
 unfoldable pub after_of : List ℕ → Cursor → Cursor

@@ -3,7 +3,9 @@ use Rattle.std.specs.Prelude.{ℕ, List, [], ◌∷◌, ◌++◌, map, length}
 use Rattle.arith.specs.declared.interval.Interval.{Interval}
 use Rattle.sheet.specs.declared.kept.Record.{Record}
 use Rattle.sheet.specs.declared.kept.Sheet.{Sheet}
-use Rattle.sheet.specs.Records.{Kind, sum, diff, neg, kind_of}
+use Rattle.sheet.specs.declared.kind.Kind.{Kind}
+use Rattle.sheet.specs.declared.kind.Kind.TheVariants.{Sum, Diff, Neg}
+use Rattle.sheet.specs.Kinds.{kind_of}
 use Rattle.sheet.specs.Cells.{canonical_cell}
 use Rattle.sheet.specs.Sheets.{no_cell, no_record, filled, used_cells, used_records}
 use Rattle.reader.specs.Lines.{tab, feed, sheet_word, cell_word, sum_word, diff_word, neg_word}
@@ -28,9 +30,9 @@ triple_text t = decimal_of t.x ++ (tab ∷ pair_text t.a t.b)
 
 -- `sum` or `diff`, x, a, b; `neg`, x, y
 abbrev pub kind_text : Kind → Record → List ℕ
-kind_text sum t = sum_word ++ (tab ∷ triple_text t)
-kind_text diff t = diff_word ++ (tab ∷ triple_text t)
-kind_text neg t = neg_word ++ (tab ∷ pair_text t.x t.a)
+kind_text Sum t = sum_word ++ (tab ∷ triple_text t)
+kind_text Diff t = diff_word ++ (tab ∷ triple_text t)
+kind_text Neg t = neg_word ++ (tab ∷ pair_text t.x t.a)
 
 -- a record over cells
 unfoldable pub record_text : Record → List ℕ

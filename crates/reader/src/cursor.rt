@@ -1,13 +1,14 @@
 // The cursor: a position in a text with what the reader keeps, and the record that stands there.
-ghost use Rattle.std.specs.Prelude.{◌≡◌};
+ghost use Rattle.std.specs.Prelude.{◌≡◌, drop};
 ghost use Rattle.reader.specs.Bytes.{PartOf};
-ghost use Rattle.reader.specs.Steps.{start, refused_at, head_step, cell_step, record_step, admitted, line_after, next_of, past, advance_of, cursor_after, record_at, record_start};
+ghost use Rattle.reader.specs.Steps.{start, head_step, cell_step, record_step, counted, line_after, step_at, next_of, past, advance_of, cursor_after, record_at, record_start};
 ghost use Rattle.reader.specs.Replies.{step_told, reply_next, Tells};
 
 use crate::bytes::{find, rest};
-use crate::line::{Line, parse};
+use crate::entry::Entry;
+use crate::line::parse;
 use arith::interval::Interval;
-use arith::refusal::Refusal;
+use arith::refusal::{Reason, Refusal};
 use sheet::fault::{cell_fault, head_fault, record_fault};
 use sheet::kept::Record;
 
@@ -21,25 +22,15 @@ pub struct Cursor {
     pub record_count: u64,
 }
 
-// What stands at a cursor: a record with the cursor after it, the end of the text, or a refusal.
+// A record of the text, with the cursor after it.
 #[derive(Clone, Copy)]
-pub enum Step {
-    Head {
-        width: u64,
-        limit: u64,
-        next: Cursor,
-    },
-    Cell {
-        cell: Interval,
-        next: Cursor,
-    },
-    Record {
-        record: Record,
-        next: Cursor,
-    },
-    End,
-    Refused(Refusal),
+pub struct Read {
+    pub entry: Entry,
+    pub next: Cursor,
 }
+
+// What stands at a cursor: a record, none at the end of the text, or a refusal.
+pub type Step = Result<Option<Read>, Refusal>;
 
 // A step, and the cursor after it.
 #[derive(Clone, Copy)]
@@ -63,134 +54,96 @@ impl Cursor {
     }
 }
 
-// A refusal, with the line as its place.
-fn refuse_at(number: u64, line: u64) -> Step
-    ensures { result ≡ refused_at number line }
-{
-    Step::Refused(Refusal {
-        number,
-        place: line,
-    })
-}
-
 // The line after a line. The greatest number that a cursor can keep is stayed at; no text has so many lines.
+#[tactic(auto, unfolding(crate::specs::Steps::line_after))]
 fn line_after(line: u64) -> u64
     ensures { result ≡ line_after line }
 {
-    if line == 18446744073709551615 {
-        return line;
-    }
-    line + 1
+    line.saturating_add(1)
 }
 
-// A head in a line, in the order of opening: refusals 1, 7. Past its line stands the cursor c.
-fn head_step(width: u64, limit: u64, line: u64, c: Cursor) -> Step
-    ensures { result ≡ head_step width limit line c }
+// A head, in the order of opening: refusals 1, 7. Past its line stands the cursor c.
+#[tactic(auto, unfolding(crate::specs::Steps::head_step))]
+fn head_step(width: u64, limit: u64, c: Cursor) -> Result<Cursor, Reason>
+    ensures { result ≡ head_step width limit c }
 {
-    let fault = head_fault(width, limit);
-    if fault != 0 {
-        return refuse_at(fault, line);
-    }
-    Step::Head {
+    head_fault(width, limit)?;
+    Ok(Cursor {
         width,
-        limit,
-        next: Cursor {
-            at: c.at,
-            line: c.line,
-            width,
-            cell_count: 0,
-            record_count: 0,
-        },
+        cell_count: 0,
+        record_count: 0,
+        ..c
+    })
+}
+
+// A cell, in the order of adding: refusals 2, 3, 10. Past its line stands the cursor c. Beside `record_step`, with another fault, count and bound.
+#[tactic(auto, unfolding(crate::specs::Steps::cell_step))]
+fn cell_step(cell: Interval, c: Cursor) -> Result<Cursor, Reason>
+    ensures { result ≡ cell_step cell c }
+{
+    cell_fault(c.width, cell)?;
+    Reason::Full.unless(c.cell_count < 64)?;
+    Ok(Cursor {
+        cell_count: c.cell_count + 1,
+        ..c
+    })
+}
+
+// A sum, diff or neg, in the order of adding: refusals 5, 10. Past its line stands the cursor c.
+#[tactic(auto, unfolding(crate::specs::Steps::record_step))]
+fn record_step(record: Record, c: Cursor) -> Result<Cursor, Reason>
+    ensures { result ≡ record_step «record» c }
+{
+    record_fault(c.cell_count, record)?;
+    Reason::Full.unless(c.record_count < 128)?;
+    Ok(Cursor {
+        record_count: c.record_count + 1,
+        ..c
+    })
+}
+
+// The cursor after an entry, or the reason of its refusal. Past its line stands the cursor c, with the record not yet counted.
+#[tactic(auto, unfolding(crate::specs::Steps::counted))]
+fn counted(entry: Entry, c: Cursor) -> Result<Cursor, Reason>
+    ensures { result ≡ counted entry c }
+{
+    match entry {
+        Entry::Head { width, limit } => head_step(width, limit, c),
+        Entry::Cell(cell) => cell_step(cell, c),
+        Entry::Record(record) => record_step(record, c),
     }
 }
 
-// A cell in a line, in the order of adding: refusals 2, 3, 10. Past its line stands the cursor c.
-fn cell_step(cell: Interval, line: u64, c: Cursor) -> Step
-    ensures { result ≡ cell_step cell line c }
+// What stands at the cursor in a text of any length.
+#[tactic(auto, unfolding(crate::specs::Steps::step_at, crate::specs::Steps::admitted, crate::specs::Bytes::before))]
+fn step_at(text: &[u8], c: Cursor) -> Step
+    ensures { result ≡ step_at (drop c.at text.now) c }
 {
-    let fault = cell_fault(c.width, cell);
-    if fault != 0 {
-        return refuse_at(fault, line);
-    }
-    if 64 <= c.cell_count {
-        return refuse_at(10, line);
-    }
-    Step::Cell {
-        cell,
-        next: Cursor {
-            at: c.at,
-            line: c.line,
-            width: c.width,
-            cell_count: c.cell_count + 1,
-            record_count: c.record_count,
-        },
-    }
-}
-
-// A sum, diff or neg in a line, in the order of adding: refusals 5, 10. Past its line stands the cursor c.
-fn record_step(record: Record, line: u64, c: Cursor) -> Step
-    ensures { result ≡ record_step «record» line c }
-{
-    let fault = record_fault(c.cell_count, record);
-    if fault != 0 {
-        return refuse_at(fault, line);
-    }
-    if 128 <= c.record_count {
-        return refuse_at(10, line);
-    }
-    Step::Record {
-        record,
-        next: Cursor {
-            at: c.at,
-            line: c.line,
-            width: c.width,
-            cell_count: c.cell_count,
-            record_count: c.record_count + 1,
-        },
-    }
-}
-
-// What a line gives: refusal 4, and after it those of its record. Past the line stands the cursor c, with the record not yet counted.
-fn admit(l: Line, line: u64, c: Cursor) -> Step
-    ensures { result ≡ admitted l line c }
-{
-    match l {
-        Line::Head { width, limit } => head_step(width, limit, line, c),
-        Line::Cell(cell) => cell_step(cell, line, c),
-        Line::Record(record) => record_step(record, line, c),
-        Line::Malformed => refuse_at(4, line),
-    }
+    let ahead = rest(text, c.at);
+    let Some(n) = find(ahead, b'\n') else {
+        if ahead.is_empty() && c.at != 0 {
+            return Ok(None);
+        }
+        return Err(Reason::Malformed.at(c.line));
+    };
+    let entry = parse(c.at, c.width, &ahead[..n]).ok_or(Reason::Malformed.at(c.line))?;
+    let past = Cursor {
+        at: c.at + n + 1,
+        line: line_after(c.line),
+        ..c
+    };
+    let next = counted(entry, past).map_err(|reason| reason.at(c.line))?;
+    Ok(Some(Read { entry, next }))
 }
 
 // The record at the cursor with the cursor after it, the end of the text, or the refusal due there.
+#[tactic(auto, unfolding(crate::specs::Steps::next_of, crate::specs::Replies::reply_next), using(crate::proofs::Replies::at_told))]
 pub fn next(text: &[u8], c: Cursor) -> Step
     ensures value { result ≡ next_of text.now c }
     ensures reply { step_told result ≡ reply_next text.now c }
 {
-    if 8192 < text.len() {
-        return refuse_at(8, 0);
-    }
-    let at = c.at;
-    let ahead = rest(text, at);
-    let n = find(ahead, 10);
-    if n < ahead.len() {
-        let l = parse(at, c.width, &ahead[..n]);
-        let past = Cursor {
-            at: at + n + 1,
-            line: line_after(c.line),
-            width: c.width,
-            cell_count: c.cell_count,
-            record_count: c.record_count,
-        };
-        return admit(l, c.line, past);
-    }
-    if ahead.len() != 0 {
-        return refuse_at(4, c.line);
-    }
-    if at == 0 {
-        return refuse_at(4, c.line);
-    }
-    Step::End
+    Reason::TooLong.unless(text.len() <= 8192)?;
+    step_at(text, c)
 }
 
 // The cursor after a step from c. A refused record and the end are stayed at.
@@ -198,15 +151,13 @@ fn past(step: Step, c: Cursor) -> Cursor
     ensures { result ≡ past step c }
 {
     match step {
-        Step::Head { next, .. } => next,
-        Step::Cell { next, .. } => next,
-        Step::Record { next, .. } => next,
-        Step::End => c,
-        Step::Refused(_) => c,
+        Ok(Some(read)) => read.next,
+        Ok(None) | Err(_) => c,
     }
 }
 
 // The step from a cursor, and the cursor after it.
+#[tactic(auto, unfolding(crate::specs::Steps::advance_of, crate::specs::Steps::after_of), using(crate::proofs::Replies::step_tells))]
 pub fn advance(text: &[u8], c: Cursor) -> Moved
     ensures { (result ≡ advance_of text.now c) × Tells text.now c result.step result.cursor }
 {
@@ -218,28 +169,26 @@ pub fn advance(text: &[u8], c: Cursor) -> Moved
 }
 
 // The cursor after the first n records of a text.
+#[tactic(auto, unfolding(crate::specs::Steps::advance_of, crate::specs::Steps::cursor_after))]
 pub fn skip(text: &[u8], n: u16) -> Cursor
     ensures { result ≡ cursor_after n text.now }
 {
     let mut cursor = Cursor::new();
-    let mut i = 0;
-    while i < n {
-        let a = advance(text, cursor);
-        cursor = a.cursor;
-        i += 1;
+    for _ in 0..n {
+        cursor = advance(text, cursor).cursor;
     }
     cursor
 }
 
 // The part of the text that the record at the cursor occupies, without its line feed. It is empty for refusal 8 and for empty text.
+#[tactic(auto, unfolding(crate::specs::Steps::record_at, crate::specs::Steps::record_start, crate::specs::Bytes::before))]
 pub fn record_at(text: &[u8], c: Cursor) -> &[u8]
     ensures { PartOf text.entry (record_start text.now c) (record_at text.now c) result }
 {
     if 8192 < text.len() {
         return &text[..0];
     }
-    let at = c.at;
-    let line = rest(text, at);
-    let end = find(line, 10);
+    let line = rest(text, c.at);
+    let end = find(line, b'\n').unwrap_or(line.len());
     &line[..end]
 }

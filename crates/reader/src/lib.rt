@@ -3,7 +3,8 @@
 
 mod bytes;
 pub mod cursor;
+pub mod entry;
 mod line;
-mod number;
+pub mod number;
 pub mod read;
 pub mod text;

@@ -1,149 +1,95 @@
-// One line of a text, without its line feed: what its fields say, or that it is malformed, unknown or misplaced.
+// One line of a text, without its line feed: the entry of its fields, or none where it is malformed, unknown or misplaced.
 ghost use Rattle.std.specs.Prelude.{◌≡◌};
-ghost use Rattle.reader.specs.Lines.{head_from, cell_from, triple_from, pair_from, head_in, cell_in, triple_in, pair_in, record_in, line_of};
+ghost use Rattle.sheet.specs.Kinds.{number_of};
+ghost use Rattle.reader.specs.Lines.{head_in, cell_in, triple_in, pair_in, record_in, line_of};
 
-use crate::bytes::{after, before, same};
-use crate::number::{Number, numeral, pattern};
+use crate::bytes::cut;
+use crate::entry::Entry;
+use crate::number::{numeral, pattern};
 use arith::interval::Interval;
 use sheet::kept::Record;
+use sheet::kind::Kind;
 
-// What a line says.
-#[derive(Clone, Copy)]
-pub(crate) enum Line {
-    Head { width: u64, limit: u64 },
-    Cell(Interval),
-    Record(Record),
-    Malformed,
-}
-
-// A head of width and pass limit; malformed where one of them is no number.
-fn head_from(w: Number, m: Number) -> Line
-    ensures { result ≡ head_from w m }
+// The fields after the word `sheet`: width and pass limit.
+#[tactic(auto, unfolding(crate::specs::Lines::head_in, crate::specs::Lines::head_from))]
+fn head_in(fields: &[u8]) -> Option<Entry>
+    ensures { result ≡ head_in fields.now }
 {
-    let Number::Value(width) = w else {
-        return Line::Malformed;
-    };
-    let Number::Value(limit) = m else {
-        return Line::Malformed;
-    };
-    Line::Head { width, limit }
-}
-
-// A cell of low and high; malformed where one of them is no pattern.
-fn cell_from(l: Number, h: Number) -> Line
-    ensures { result ≡ cell_from l h }
-{
-    let Number::Value(low) = l else {
-        return Line::Malformed;
-    };
-    let Number::Value(high) = h else {
-        return Line::Malformed;
-    };
-    Line::Cell(Interval { low, high })
-}
-
-// A sum or a diff, by its kind, of the cell numbers of x, a, b; malformed where one of them is no number.
-fn triple_from(kind: u64, i: Number, j: Number, k: Number) -> Line
-    ensures { result ≡ triple_from kind i j k }
-{
-    let Number::Value(x) = i else {
-        return Line::Malformed;
-    };
-    let Number::Value(a) = j else {
-        return Line::Malformed;
-    };
-    let Number::Value(b) = k else {
-        return Line::Malformed;
-    };
-    Line::Record(Record { kind, x, a, b })
-}
-
-// A neg of the cell numbers of x and y; malformed where one of them is no number.
-fn pair_from(i: Number, j: Number) -> Line
-    ensures { result ≡ pair_from i j }
-{
-    let Number::Value(x) = i else {
-        return Line::Malformed;
-    };
-    let Number::Value(a) = j else {
-        return Line::Malformed;
-    };
-    Line::Record(Record {
-        kind: 2,
-        x,
-        a,
-        b: 0,
+    let (w, m) = cut(fields, b'\t');
+    Some(Entry::Head {
+        width: numeral(w)?,
+        limit: numeral(m)?,
     })
 }
 
-// The fields after the word `sheet`.
-fn head_in(fields: &[u8]) -> Line
-    ensures { result ≡ head_in fields.now }
-{
-    let width = numeral(before(fields, 9));
-    let limit = numeral(after(fields, 9));
-    head_from(width, limit)
-}
-
-// The fields after the word `cell`.
-fn cell_in(width: u64, fields: &[u8]) -> Line
+// The fields after the word `cell`: low and high.
+#[tactic(auto, unfolding(crate::specs::Lines::cell_in, crate::specs::Lines::cell_from))]
+fn cell_in(width: u64, fields: &[u8]) -> Option<Entry>
     ensures { result ≡ cell_in width fields.now }
 {
-    let low = pattern(width, before(fields, 9));
-    let high = pattern(width, after(fields, 9));
-    cell_from(low, high)
+    let (l, h) = cut(fields, b'\t');
+    Some(Entry::Cell(Interval {
+        low: pattern(width, l)?,
+        high: pattern(width, h)?,
+    }))
 }
 
-// The fields after the word `sum` or `diff`.
-fn triple_in(kind: u64, fields: &[u8]) -> Line
-    ensures { result ≡ triple_in kind fields.now }
+// The fields after the word `sum` or `diff`: the cell numbers of x, a, b.
+#[tactic(auto, unfolding(crate::specs::Lines::triple_in, crate::specs::Lines::triple_from))]
+fn triple_in(kind: Kind, fields: &[u8]) -> Option<Entry>
+    ensures { result ≡ triple_in (number_of kind) fields.now }
 {
-    let more = after(fields, 9);
-    let x = numeral(before(fields, 9));
-    let a = numeral(before(more, 9));
-    let b = numeral(after(more, 9));
-    triple_from(kind, x, a, b)
+    let (i, more) = cut(fields, b'\t');
+    let (j, k) = cut(more, b'\t');
+    Some(Entry::Record(Record {
+        kind: kind as u64,
+        x: numeral(i)?,
+        a: numeral(j)?,
+        b: numeral(k)?,
+    }))
 }
 
-// The fields after the word `neg`.
-fn pair_in(fields: &[u8]) -> Line
+// The fields after the word `neg`: the cell numbers of x and y.
+#[tactic(auto, unfolding(crate::specs::Lines::pair_in, crate::specs::Lines::pair_from))]
+fn pair_in(fields: &[u8]) -> Option<Entry>
     ensures { result ≡ pair_in fields.now }
 {
-    let x = numeral(before(fields, 9));
-    let y = numeral(after(fields, 9));
-    pair_from(x, y)
+    let (i, j) = cut(fields, b'\t');
+    Some(Entry::Record(Record {
+        kind: Kind::Neg as u64,
+        x: numeral(i)?,
+        a: numeral(j)?,
+        b: 0,
+    }))
 }
 
 // A sum, diff or neg by its word.
-fn record_in(word: &[u8], fields: &[u8]) -> Line
+#[tactic(auto, unfolding(crate::specs::Lines::record_in, crate::specs::Bytes::is_same))]
+fn record_in(word: &[u8], fields: &[u8]) -> Option<Entry>
     ensures { result ≡ record_in word.now fields.now }
 {
-    if same(word, b"sum") {
-        return triple_in(0, fields);
+    if word == b"sum".as_slice() {
+        return triple_in(Kind::Sum, fields);
     }
-    if same(word, b"diff") {
-        return triple_in(1, fields);
+    if word == b"diff".as_slice() {
+        return triple_in(Kind::Diff, fields);
     }
-    if same(word, b"neg") {
+    if word == b"neg".as_slice() {
         return pair_in(fields);
     }
-    Line::Malformed
+    None
 }
 
 // A line by its first field: a head at the start of the text, a cell or a record over cells anywhere else.
-pub(crate) fn parse(at: usize, width: u64, line: &[u8]) -> Line
+#[tactic(auto, unfolding(crate::specs::Lines::line_of, crate::specs::Bytes::is_same))]
+pub(crate) fn parse(at: usize, width: u64, line: &[u8]) -> Option<Entry>
     ensures { result ≡ line_of at width line.now }
 {
-    let word = before(line, 9);
-    let fields = after(line, 9);
-    if at == 0 {
-        if same(word, b"sheet") {
-            return head_in(fields);
-        }
-        return Line::Malformed;
+    let (word, fields) = cut(line, b'\t');
+    match at {
+        0 if word == b"sheet".as_slice() => head_in(fields),
+        0 => None,
+        _ if word == b"cell".as_slice() => cell_in(width, fields),
+        _ => record_in(word, fields),
     }
-    if same(word, b"cell") {
-        return cell_in(width, fields);
-    }
-    record_in(word, fields)
 }

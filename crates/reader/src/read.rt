@@ -1,9 +1,29 @@
 // Reads a whole text into a kept sheet. Each record takes the next place; the sheet is tested and tidied once, at the end.
-ghost use Rattle.reader.specs.Readings.{ReadsText};
+ghost use Rattle.std.specs.Prelude.{◌≡◌};
+ghost use Rattle.reader.specs.Readings.{HasPlace, with_entry, ReadsText};
 
-use crate::cursor::{Cursor, Step, next};
+use crate::cursor::{Cursor, next};
+use crate::entry::Entry;
 use sheet::accepting::accept;
-use sheet::kept::{Answer, Kept, blank_sheet};
+use sheet::kept::{Kept, Sheet, blank_sheet};
+
+// Puts a record in the place that comes next; a head opens the sheet.
+fn put(sheet: &mut Sheet, entry: Entry)
+    requires { HasPlace sheet.old entry }
+    ensures { sheet.new ≡ with_entry entry sheet.old }
+{
+    match entry {
+        Entry::Head { width, limit } => *sheet = blank_sheet(width, limit),
+        Entry::Cell(cell) => {
+            sheet.cells[sheet.cell_count as usize] = cell;
+            sheet.cell_count += 1;
+        }
+        Entry::Record(record) => {
+            sheet.records[sheet.record_count as usize] = record;
+            sheet.record_count += 1;
+        }
+    }
+}
 
 // The sheet that the text describes, or the first refusal with the blank sheet.
 pub fn read(text: &[u8]) -> Kept
@@ -13,29 +33,15 @@ pub fn read(text: &[u8]) -> Kept
     let mut sheet = blank_sheet(0, 0);
     loop {
         match next(text, cursor) {
-            Step::Head { width, limit, next } => {
-                sheet = blank_sheet(width, limit);
-                cursor = next;
+            Ok(Some(read)) => {
+                put(&mut sheet, read.entry);
+                cursor = read.next;
             }
-            Step::Cell { cell, next } => {
-                let count = sheet.cell_count;
-                sheet.cells[count as usize] = cell;
-                sheet.cell_count = count + 1;
-                cursor = next;
-            }
-            Step::Record { record, next } => {
-                let count = sheet.record_count;
-                sheet.records[count as usize] = record;
-                sheet.record_count = count + 1;
-                cursor = next;
-            }
-            Step::End => {
-                return accept(sheet);
-            }
-            Step::Refused(r) => {
+            Ok(None) => return accept(sheet),
+            Err(r) => {
                 return Kept {
                     sheet: blank_sheet(0, 0),
-                    answer: Answer::Refused(r),
+                    answer: Err(r),
                 };
             }
         }

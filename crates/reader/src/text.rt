@@ -4,16 +4,16 @@ ghost use Rattle.reader.specs.Bytes.{PartOf};
 ghost use Rattle.reader.specs.Steps.{start, next_of, after_of, cursor_after, record_at, record_start};
 ghost use Rattle.reader.specs.Replies.{step_told, reply_next, Tells};
 
-use crate::cursor::{Cursor, Step, advance, record_at, skip};
+use crate::cursor::{Cursor, Moved, Step, advance, record_at, skip};
 
-// A text, and where its next record stands.
+// A text, and where its next record stands. 01 names this form.
 #[derive(Clone, Copy)]
 pub struct Reader<'a> {
     pub text: &'a [u8],
     pub cursor: Cursor,
 }
 
-// What a reader gives, and the reader after it.
+// What a reader gives, and the reader after it: by value, as 01 names it.
 #[derive(Clone, Copy)]
 pub struct Given<'a> {
     pub reader: Reader<'a>,
@@ -32,16 +32,14 @@ impl<'a> Reader<'a> {
     }
 
     // The record at the reader, the end of the text or the refusal due there, and the reader after it. It stays at a refused record and at the end.
+    #[tactic(auto, unfolding(crate::specs::Steps::advance_of))]
     pub fn next(self) -> Given<'a>
         ensures { (result.reader.text ≡ self.entry.text) × ((result.reader.cursor ≡ after_of self.entry.text.now self.entry.cursor) × ((result.step ≡ next_of self.entry.text.now self.entry.cursor) × Tells self.entry.text.now self.entry.cursor result.step result.reader.cursor)) }
     {
-        let a = advance(self.text, self.cursor);
+        let Moved { cursor, step } = advance(self.text, self.cursor);
         Given {
-            reader: Reader {
-                text: self.text,
-                cursor: a.cursor,
-            },
-            step: a.step,
+            reader: Reader { cursor, ..self },
+            step,
         }
     }
 
@@ -58,8 +56,7 @@ pub fn nth(text: &[u8], n: u16) -> Step
     ensures { (result ≡ next_of text.now (cursor_after n text.now)) × (step_told result ≡ reply_next text.now (cursor_after n text.now)) }
 {
     let cursor = skip(text, n);
-    let given = Reader { text, cursor }.next();
-    given.step
+    Reader { text, cursor }.next().step
 }
 
 // The part of the text that the record after the first n occupies. It is the refused one, or empty at the end, where either comes sooner.

@@ -1,290 +1,177 @@
 // Cut, shift, mirror and canonical patterns of intervals, with each refusal and its order.
-use crate::print::{put_number, put_pattern, put_refused, put_text, put_verdict};
-use arith::interval::{Cut, Image, Interval};
+use crate::named::{
+    FOUR_32, INFINITE_32, LARGEST, LARGEST_32, LEAST, LEAST_32, MINUS_INFINITE, MINUS_ONE,
+    MINUS_ONE_32, MINUS_TWO, MINUS_ZERO_32, ONE, ONE_32, THREE_32, TIE_ABOVE, TWO, TWO_32,
+};
+use crate::print::{Answer, At, EndsAt, conclude, refused_by};
+use arith::interval::Interval;
+use arith::refusal::{Reason, Refusal};
+use std::io;
 use std::io::Stdout;
 
-// An answer in numbers: an interval, nothing shared, or a refusal with its place.
-#[derive(Clone, Copy)]
-struct Reply {
-    refusal: u64,
-    place: u64,
-    empty: bool,
-    low: u64,
-    high: u64,
+// The interval with these ends.
+pub(crate) fn ends(low: u64, high: u64) -> Interval {
+    Interval::new(low, high)
 }
 
-fn refused(refusal: u64) -> Reply {
-    refused_at(refusal, 0)
-}
-
-fn refused_at(refusal: u64, place: u64) -> Reply {
-    Reply {
-        refusal,
-        place,
-        empty: false,
-        low: 0,
-        high: 0,
+impl Answer for Interval {
+    fn show(&self, out: Stdout, width: u64) -> io::Result<()> {
+        print!(out; " ={}", EndsAt(width, *self))
     }
 }
 
-fn nothing() -> Reply {
-    Reply {
-        refusal: 0,
-        place: 0,
-        empty: true,
-        low: 0,
-        high: 0,
+// What is shared.
+impl Answer for Option<Interval> {
+    fn show(&self, out: Stdout, width: u64) -> io::Result<()> {
+        match self {
+            Some(i) => i.show(out, width),
+            None => print!(out; " = nothing"),
+        }
     }
-}
-
-fn span(low: u64, high: u64) -> Reply {
-    Reply {
-        refusal: 0,
-        place: 0,
-        empty: false,
-        low,
-        high,
-    }
-}
-
-fn cut_reply(answer: Cut) -> Reply {
-    match answer {
-        Cut::Shared(i) => span(i.low, i.high),
-        Cut::Empty => nothing(),
-        Cut::Refused(r) => refused_at(r.number, r.place),
-    }
-}
-
-fn image_reply(answer: Image) -> Reply {
-    match answer {
-        Image::Is(i) => span(i.low, i.high),
-        Image::Refused(r) => refused_at(r.number, r.place),
-    }
-}
-
-fn equal(r: Reply, s: Reply) -> bool {
-    let refusals = (r.refusal == s.refusal) & (r.place == s.place);
-    refusals & (r.empty == s.empty) & (r.low == s.low) & (r.high == s.high)
-}
-
-fn put_reply(stdout: Stdout, width: u64, r: Reply) {
-    if r.refusal != 0 {
-        put_refused(stdout, r.refusal);
-        return;
-    }
-    if r.empty {
-        put_text(stdout, b" = nothing");
-        return;
-    }
-    put_text(stdout, b" =");
-    put_pattern(stdout, width, r.low);
-    put_pattern(stdout, width, r.high);
-}
-
-// The rest of a line: the answer, and whether it is the one expected.
-fn conclude(stdout: Stdout, width: u64, got: Reply, expected: Reply) {
-    put_reply(stdout, width, got);
-    put_verdict(stdout, equal(got, expected));
-}
-
-pub(crate) fn put_interval(stdout: Stdout, width: u64, i: Interval) {
-    put_pattern(stdout, width, i.low);
-    put_pattern(stdout, width, i.high);
-}
-
-fn read_cut(stdout: Stdout, width: u64, i: Interval, j: Interval, expected: Reply) {
-    put_text(stdout, b"cut");
-    put_number(stdout, width);
-    put_interval(stdout, width, i);
-    put_interval(stdout, width, j);
-    conclude(stdout, width, cut_reply(i.cut(width, j)), expected);
-}
-
-fn read_shift(stdout: Stdout, width: u64, i: Interval, c: u64, expected: Reply) {
-    put_text(stdout, b"shift");
-    put_number(stdout, width);
-    put_interval(stdout, width, i);
-    put_pattern(stdout, width, c);
-    conclude(stdout, width, image_reply(i.shift(width, c)), expected);
-}
-
-fn read_mirror(stdout: Stdout, width: u64, i: Interval, expected: Reply) {
-    put_text(stdout, b"mirror");
-    put_number(stdout, width);
-    put_interval(stdout, width, i);
-    conclude(stdout, width, image_reply(i.mirror(width)), expected);
-}
-
-fn read_mirror_ends(stdout: Stdout, width: u64, i: Interval, expected: Reply) {
-    put_text(stdout, b"mirror of the ends");
-    put_number(stdout, width);
-    put_interval(stdout, width, i);
-    let m = i.mirror_ends(width);
-    conclude(stdout, width, span(m.low, m.high), expected);
-}
-
-fn read_canonical(stdout: Stdout, width: u64, i: Interval, expected: Reply) {
-    put_text(stdout, b"canonical");
-    put_number(stdout, width);
-    put_interval(stdout, width, i);
-    conclude(stdout, width, image_reply(i.canonical(width)), expected);
 }
 
 // [1, 3] and [2, 4] share [2, 3], [1, 2] and [3, 4] nothing, and a shared zero has its one pattern.
-fn read_cuts(stdout: Stdout) {
-    read_cut(
-        stdout,
-        32,
-        Interval::new(0x3F800000, 0x40400000),
-        Interval::new(0x40000000, 0x40800000),
-        span(0x40000000, 0x40400000),
-    );
-    read_cut(
-        stdout,
-        32,
-        Interval::new(0x3F800000, 0x40000000),
-        Interval::new(0x40400000, 0x40800000),
-        nothing(),
-    );
-    read_cut(
-        stdout,
-        32,
-        Interval::new(0xBF800000, 0x80000000),
-        Interval::new(0x00000000, 0x3F800000),
-        span(0, 0),
-    );
-    read_cut(
-        stdout,
-        16,
-        Interval::new(0x7F800000, 0),
-        Interval::new(0x7F800000, 0),
-        refused(1),
-    );
-    read_cut(
-        stdout,
-        32,
-        Interval::new(0x40000000, 0x3F800000),
-        Interval::new(0x40000000, 0x7F800000),
-        refused(2),
-    );
-    read_cut(
-        stdout,
-        32,
-        Interval::new(0x3F800000, 0x40000000),
-        Interval::new(0x40000000, 0x3F800000),
-        refused(3),
-    );
+fn read_cuts(out: Stdout) -> io::Result<()> {
+    let low = ends(ONE_32, TWO_32);
+    let crossed = ends(TWO_32, ONE_32);
+    let infinite = ends(INFINITE_32, 0);
+    let to_infinity = ends(TWO_32, INFINITE_32);
+    for (width, i, j, expected) in [
+        (
+            32,
+            ends(ONE_32, THREE_32),
+            ends(TWO_32, FOUR_32),
+            Ok(Some(ends(TWO_32, THREE_32))),
+        ),
+        (32, low, ends(THREE_32, FOUR_32), Ok(None)),
+        (
+            32,
+            ends(MINUS_ONE_32, MINUS_ZERO_32),
+            ends(0, ONE_32),
+            Ok(Some(ends(0, 0))),
+        ),
+        (16, infinite, infinite, refused_by(Reason::Width)),
+        (32, crossed, to_infinity, refused_by(Reason::NotFinite)),
+        (32, low, crossed, refused_by(Reason::Reversed)),
+    ] {
+        print!(out; "cut {width}{}{}", EndsAt(width, i), EndsAt(width, j))?;
+        let got = i.cut(width, j);
+        conclude(out, width, &got, got == expected)?;
+    }
+    Ok(())
 }
 
 // Ends are rounded each by itself: [1, 1 + 2^-52] by 2^-53 becomes [1, 1 + 2^-51].
-fn read_shifts(stdout: Stdout) {
-    read_shift(
-        stdout,
-        64,
-        Interval::new(0x3FF0000000000000, 0x3FF0000000000001),
-        0x3CA0000000000000,
-        span(0x3FF0000000000000, 0x3FF0000000000002),
-    );
-    read_shift(
-        stdout,
-        64,
-        Interval::new(0xBFF0000000000000, 0x3FF0000000000000),
-        0x3FF0000000000000,
-        span(0x0000000000000000, 0x4000000000000000),
-    );
-    read_shift(stdout, 65, Interval::new(0, 0), 0, refused(1));
-    read_shift(
-        stdout,
-        64,
-        Interval::new(0, 0),
-        0xFFF0000000000000,
-        refused(2),
-    );
-    read_shift(
-        stdout,
-        64,
-        Interval::new(1, 0),
-        0x3FF0000000000000,
-        refused(3),
-    );
-    read_shift(
-        stdout,
-        64,
-        Interval::new(0, 0x7FEFFFFFFFFFFFFF),
-        0x7C90000000000000,
-        refused(9),
-    );
-    read_shift(
-        stdout,
-        64,
-        Interval::new(0xFFEFFFFFFFFFFFFF, 0),
-        0xFC90000000000000,
-        refused(9),
-    );
+fn read_shifts(out: Stdout) -> io::Result<()> {
+    for (width, i, c, expected) in [
+        (64, ends(ONE, ONE + 1), TIE_ABOVE, Ok(ends(ONE, ONE + 2))),
+        (64, ends(MINUS_ONE, ONE), ONE, Ok(ends(0, TWO))),
+        (65, ends(0, 0), 0, refused_by(Reason::Width)),
+        (
+            64,
+            ends(0, 0),
+            MINUS_INFINITE,
+            refused_by(Reason::NotFinite),
+        ),
+        (64, ends(1, 0), ONE, refused_by(Reason::Reversed)),
+        (
+            64,
+            ends(0, LARGEST),
+            0x7C90000000000000,
+            refused_by(Reason::Overflow),
+        ),
+        (
+            64,
+            ends(LEAST, 0),
+            0xFC90000000000000,
+            refused_by(Reason::Overflow),
+        ),
+    ] {
+        print!(out; "shift {width}{}{}", EndsAt(width, i), At(width, &[c]))?;
+        let got = i.shift(width, c);
+        conclude(out, width, &got, got == expected)?;
+    }
+    Ok(())
 }
 
-fn read_mirrors(stdout: Stdout) {
-    read_mirror(
-        stdout,
-        64,
-        Interval::new(0xBFF0000000000000, 0x4000000000000000),
-        span(0xC000000000000000, 0x3FF0000000000000),
-    );
-    read_mirror(
-        stdout,
-        64,
-        Interval::new(0, 0x3FF0000000000000),
-        span(0xBFF0000000000000, 0),
-    );
-    read_mirror(stdout, 63, Interval::new(0, 0), refused(1));
-    read_mirror(stdout, 64, Interval::new(0xFFF0000000000000, 0), refused(2));
-    read_mirror(stdout, 64, Interval::new(0, 0x8000000000000001), refused(3));
+// A line for a call of this name at each width and interval, with the answer expected.
+fn read_images<F: Fn(Interval, u64) -> Result<Interval, Refusal>>(
+    out: Stdout,
+    name: &str,
+    call: F,
+    cases: &[(u64, Interval, Result<Interval, Refusal>)],
+) -> io::Result<()>
+    requires { F.IsAlwaysCallable call }
+{
+    for (width, i, expected) in cases {
+        let width = *width;
+        print!(out; "{name} {width}{}", EndsAt(width, *i))?;
+        let got = call(*i, width);
+        conclude(out, width, &got, got == *expected)?;
+    }
+    Ok(())
 }
 
-fn read_canonicals(stdout: Stdout) {
-    read_canonical(
-        stdout,
-        32,
-        Interval::new(0x80000000, 0x80000000),
-        span(0, 0),
-    );
-    read_canonical(
-        stdout,
-        32,
-        Interval::new(0xFF7FFFFF, 0x7F7FFFFF),
-        span(0xFF7FFFFF, 0x7F7FFFFF),
-    );
-    read_canonical(stdout, 31, Interval::new(0, 0), refused(1));
-    read_canonical(stdout, 32, Interval::new(0, 0x100000000), refused(2));
-    read_canonical(
-        stdout,
-        32,
-        Interval::new(0x00000001, 0x80000000),
-        refused(3),
-    );
+fn read_mirrors(out: Stdout) -> io::Result<()> {
+    read_images(
+        out,
+        "mirror",
+        |i, width| i.mirror(width),
+        &[
+            (64, ends(MINUS_ONE, TWO), Ok(ends(MINUS_TWO, ONE))),
+            (64, ends(0, ONE), Ok(ends(MINUS_ONE, 0))),
+            (63, ends(0, 0), refused_by(Reason::Width)),
+            (64, ends(MINUS_INFINITE, 0), refused_by(Reason::NotFinite)),
+            (
+                64,
+                ends(0, 0x8000000000000001),
+                refused_by(Reason::Reversed),
+            ),
+        ],
+    )
 }
 
 // The mirror without a test: of both zeros, and of an interval out of order.
-fn read_mirrored_ends(stdout: Stdout) {
-    read_mirror_ends(
-        stdout,
-        64,
-        Interval::new(0xBFF0000000000000, 0x4000000000000000),
-        span(0xC000000000000000, 0x3FF0000000000000),
-    );
-    read_mirror_ends(stdout, 32, Interval::new(0x80000000, 0), span(0, 0));
-    read_mirror_ends(
-        stdout,
-        32,
-        Interval::new(0x3F800000, 0xFF7FFFFF),
-        span(0x7F7FFFFF, 0xBF800000),
-    );
+fn read_mirrored_ends(out: Stdout) -> io::Result<()> {
+    read_images(
+        out,
+        "mirror of the ends",
+        |i, width| Ok(i.mirror_ends(width)),
+        &[
+            (64, ends(MINUS_ONE, TWO), Ok(ends(MINUS_TWO, ONE))),
+            (32, ends(MINUS_ZERO_32, 0), Ok(ends(0, 0))),
+            (
+                32,
+                ends(ONE_32, LEAST_32),
+                Ok(ends(LARGEST_32, MINUS_ONE_32)),
+            ),
+        ],
+    )
 }
 
-pub(crate) fn read_intervals(stdout: Stdout) {
-    read_cuts(stdout);
-    read_shifts(stdout);
-    read_mirrors(stdout);
-    read_mirrored_ends(stdout);
-    read_canonicals(stdout);
+fn read_canonicals(out: Stdout) -> io::Result<()> {
+    read_images(
+        out,
+        "canonical",
+        |i, width| i.canonical(width),
+        &[
+            (32, ends(MINUS_ZERO_32, MINUS_ZERO_32), Ok(ends(0, 0))),
+            (
+                32,
+                ends(LEAST_32, LARGEST_32),
+                Ok(ends(LEAST_32, LARGEST_32)),
+            ),
+            (31, ends(0, 0), refused_by(Reason::Width)),
+            (32, ends(0, 0x100000000), refused_by(Reason::NotFinite)),
+            (32, ends(1, MINUS_ZERO_32), refused_by(Reason::Reversed)),
+        ],
+    )
+}
+
+pub(crate) fn read_intervals(out: Stdout) -> io::Result<()> {
+    read_cuts(out)?;
+    read_shifts(out)?;
+    read_mirrors(out)?;
+    read_mirrored_ends(out)?;
+    read_canonicals(out)
 }

@@ -3,16 +3,19 @@
 
 mod floats;
 mod intervals;
+mod named;
 mod narrowings;
 mod print;
 mod sums;
 mod traps;
 
-fn main(rt: HostRuntime) {
-    let stdout = rt.stdout();
-    sums::read_sums(stdout);
-    intervals::read_intervals(stdout);
-    narrowings::read_narrowings(stdout);
-    traps::read_traps(stdout);
-    floats::read_floats(stdout);
+use std::io;
+
+fn main(rt: HostRuntime) -> io::Result<()> {
+    let out = rt.stdout();
+    sums::read_sums(out)?;
+    intervals::read_intervals(out)?;
+    narrowings::read_narrowings(out)?;
+    traps::read_traps(out)?;
+    floats::read_floats(out)
 }

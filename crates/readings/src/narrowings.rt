@@ -1,190 +1,150 @@
 // 01's narrowings of one sum, and each refusal with its order.
-use crate::intervals::put_interval;
-use crate::print::{put_number, put_refused, put_text, put_verdict};
+use crate::intervals::ends;
+use crate::named::{
+    INFINITE, LARGE, LARGEST, LARGEST_32, LEAST, LEAST_32, MINUS_INFINITE, MINUS_LARGE,
+    MINUS_TWICE_LARGE, MINUS_ZERO, ONE, ONE_32, TIE_ABOVE, TIE_BELOW, TWICE_LARGE, TWO,
+};
+use crate::print::{Answer, EndsAt, conclude, refused_by};
 use arith::interval::Interval;
 use arith::narrow::{Narrowed, narrow};
+use arith::refusal::{Reason, Refusal};
+use std::io;
 use std::io::Stdout;
 
-// An answer in numbers: refusal 0 stands for three intervals.
-#[derive(Clone, Copy)]
-pub(crate) struct Reply {
-    refusal: u64,
-    place: u64,
-    x: Interval,
-    a: Interval,
-    b: Interval,
-}
+// x, a and b.
+pub(crate) type Three = [Interval; 3];
 
-pub(crate) fn ends(x: Interval, a: Interval, b: Interval) -> Reply {
-    Reply {
-        refusal: 0,
-        place: 0,
-        x,
-        a,
-        b,
+impl Answer for Three {
+    fn show(&self, out: Stdout, width: u64) -> io::Result<()> {
+        let [x, a, b] = *self;
+        print!(out;
+            " ={}{}{}",
+            EndsAt(width, x),
+            EndsAt(width, a),
+            EndsAt(width, b)
+        )
     }
 }
 
-fn refused_at(refusal: u64, place: u64) -> Reply {
-    let none = Interval::new(0, 0);
-    Reply {
-        refusal,
-        place,
-        x: none,
-        a: none,
-        b: none,
-    }
-}
-
-pub(crate) fn refused(refusal: u64) -> Reply {
-    refused_at(refusal, 0)
-}
-
-fn reply_of(answer: Narrowed) -> Reply {
-    match answer {
-        Narrowed::Ends { x, a, b } => ends(x, a, b),
-        Narrowed::Refused(r) => refused_at(r.number, r.place),
-    }
-}
-
-fn equal_intervals(i: Interval, j: Interval) -> bool {
-    (i.low == j.low) & (i.high == j.high)
-}
-
-fn equal(r: Reply, s: Reply) -> bool {
-    let refusals = (r.refusal == s.refusal) & (r.place == s.place);
-    let x = equal_intervals(r.x, s.x);
-    let a = equal_intervals(r.a, s.a);
-    let b = equal_intervals(r.b, s.b);
-    refusals & x & a & b
-}
-
-pub(crate) fn put_intervals(stdout: Stdout, width: u64, x: Interval, a: Interval, b: Interval) {
-    put_interval(stdout, width, x);
-    put_interval(stdout, width, a);
-    put_interval(stdout, width, b);
-}
-
-fn put_reply(stdout: Stdout, width: u64, r: Reply) {
-    if r.refusal != 0 {
-        put_refused(stdout, r.refusal);
-        return;
-    }
-    put_text(stdout, b" =");
-    put_intervals(stdout, width, r.x, r.a, r.b);
+// What a narrowing answers.
+fn answer_of(answer: Result<Narrowed, Refusal>) -> Result<Three, Refusal> {
+    answer.map(|n| [n.x, n.a, n.b])
 }
 
 // A line with the intervals given, the answer, and whether it is the one expected, in integers and by the machine's floats.
 pub(crate) fn read_narrowing(
-    stdout: Stdout,
+    out: Stdout,
     width: u64,
-    x: Interval,
-    a: Interval,
-    b: Interval,
-    expected: Reply,
-) {
-    let got = reply_of(narrow(width, x, a, b));
-    let fast = reply_of(machine::narrow::narrow(width, x, a, b));
-    put_text(stdout, b"narrow");
-    put_number(stdout, width);
-    put_intervals(stdout, width, x, a, b);
-    put_reply(stdout, width, got);
-    put_verdict(stdout, equal(got, expected) & equal(fast, expected));
+    given: Three,
+    expected: Result<Three, Refusal>,
+) -> io::Result<()> {
+    let [x, a, b] = given;
+    print!(out;
+        "narrow {width}{}{}{}",
+        EndsAt(width, x),
+        EndsAt(width, a),
+        EndsAt(width, b)
+    )?;
+    let got = answer_of(narrow(width, x, a, b));
+    let fast = answer_of(machine::narrow::narrow(width, x, a, b));
+    conclude(out, width, &got, got == expected && fast == expected)
 }
 
-// All finite floats of width 64.
-pub(crate) fn all_floats() -> Interval {
-    Interval::new(0xFFEFFFFFFFFFFFFF, 0x7FEFFFFFFFFFFFFF)
-}
+// The finite floats of width 64, and 1.
+pub(crate) const FINITE: Interval = Interval {
+    low: LEAST,
+    high: LARGEST,
+};
 
-pub(crate) fn point(p: u64) -> Interval {
-    Interval::new(p, p)
-}
-
-// 1 as an interval of width 64.
-pub(crate) fn one() -> Interval {
-    point(0x3FF0000000000000)
-}
+pub(crate) const ONES: Interval = Interval {
+    low: ONE,
+    high: ONE,
+};
 
 // 01's narrowings.
-fn read_starred(stdout: Stdout) {
-    let all = all_floats();
-    let one = one();
-    let small = Interval::new(0xBC90000000000000, 0x3CA0000000000000);
-    read_narrowing(stdout, 64, all, one, one, ends(small, one, one));
-    let all32 = Interval::new(0xFF7FFFFF, 0x7F7FFFFF);
-    let one32 = point(0x3F800000);
-    let small32 = Interval::new(0xB3000000, 0x33800000);
-    read_narrowing(stdout, 32, all32, one32, one32, ends(small32, one32, one32));
-    let twos = Interval::new(0x4000000000000000, 0x4000000000000001);
-    let minus_ones = Interval::new(0xBFF0000000000002, 0xBFEFFFFFFFFFFFFF);
-    read_narrowing(stdout, 64, all, twos, one, ends(minus_ones, twos, one));
-    let large = Interval::new(0x4340000000000000, 0x4350000000000000);
-    let minus_large = Interval::new(0xC350000000000000, 0xC340000000000000);
-    read_narrowing(stdout, 64, large, minus_large, one, refused(11));
+fn read_starred(out: Stdout) -> io::Result<()> {
+    let small = ends(TIE_BELOW, TIE_ABOVE);
+    read_narrowing(out, 64, [FINITE, ONES, ONES], Ok([small, ONES, ONES]))?;
+    let finite = ends(LEAST_32, LARGEST_32);
+    let ones = ends(ONE_32, ONE_32);
+    let small = ends(0xB3000000, 0x33800000);
+    read_narrowing(out, 32, [finite, ones, ones], Ok([small, ones, ones]))?;
+    let twos = ends(TWO, TWO + 1);
+    let minus_ones = ends(0xBFF0000000000002, 0xBFEFFFFFFFFFFFFF);
+    read_narrowing(out, 64, [FINITE, twos, ONES], Ok([minus_ones, twos, ONES]))?;
+    let large = ends(LARGE, TWICE_LARGE);
+    let minus_large = ends(MINUS_TWICE_LARGE, MINUS_LARGE);
+    read_narrowing(
+        out,
+        64,
+        [large, minus_large, ONES],
+        refused_by(Reason::NoTriple),
+    )
 }
 
 // The sum of 01's listing.
-fn read_listing(stdout: Stdout) {
-    let x = Interval::new(0xC630000000000000, 0xC330000000000000);
-    let a = Interval::new(0x3FF0000000000000, 0x4630000000000000);
-    let b = Interval::new(0x3FE0000000000000, 0x3FF8000000000000);
-    let narrowed_x = Interval::new(0xC33FFFFFFFFFFFFF, 0xC330000000000000);
-    let narrowed_a = Interval::new(0x4330000000000001, 0x4340000000000000);
-    read_narrowing(stdout, 64, x, a, b, ends(narrowed_x, narrowed_a, one()));
+fn read_listing(out: Stdout) -> io::Result<()> {
+    let x = ends(0xC630000000000000, 0xC330000000000000);
+    let a = ends(ONE, 0x4630000000000000);
+    let b = ends(0x3FE0000000000000, 0x3FF8000000000000);
+    let narrowed_x = ends(0xC33FFFFFFFFFFFFF, 0xC330000000000000);
+    let narrowed_a = ends(0x4330000000000001, 0x4340000000000000);
+    read_narrowing(out, 64, [x, a, b], Ok([narrowed_x, narrowed_a, ONES]))
 }
 
 // Zero in its one pattern, the largest floats, all floats.
-fn read_extremes(stdout: Stdout) {
-    let zero = point(0);
-    let minus_zero = point(0x8000000000000000);
-    let about_zero = Interval::new(0x8000000000000000, 1);
+fn read_extremes(out: Stdout) -> io::Result<()> {
+    let zero = ends(0, 0);
+    let minus_zero = ends(MINUS_ZERO, MINUS_ZERO);
+    let about_zero = ends(MINUS_ZERO, 1);
     read_narrowing(
-        stdout,
+        out,
         64,
-        minus_zero,
-        zero,
-        about_zero,
-        ends(zero, zero, zero),
-    );
-    let all = all_floats();
-    let largest = point(0x7FEFFFFFFFFFFFFF);
-    let positive = Interval::new(0, 0x7FEFFFFFFFFFFFFF);
-    let lost = Interval::new(0, 0x7C8FFFFFFFFFFFFF);
+        [minus_zero, zero, about_zero],
+        Ok([zero, zero, zero]),
+    )?;
+    let largest = ends(LARGEST, LARGEST);
+    let positive = ends(0, LARGEST);
+    let lost = ends(0, 0x7C8FFFFFFFFFFFFF);
     read_narrowing(
-        stdout,
+        out,
         64,
-        largest,
-        positive,
-        all,
-        ends(largest, lost, largest),
-    );
-    read_narrowing(stdout, 64, all, all, all, ends(all, all, all));
+        [largest, positive, FINITE],
+        Ok([largest, lost, largest]),
+    )?;
+    read_narrowing(
+        out,
+        64,
+        [FINITE, FINITE, FINITE],
+        Ok([FINITE, FINITE, FINITE]),
+    )
 }
 
 // Refusals 1; 2 for each end; 3 for x, a, b.
-fn read_refusals(stdout: Stdout) {
-    let one = one();
-    let crossed = Interval::new(0x4000000000000000, 0x3FF0000000000000);
-    let infinite = Interval::new(0, 0x7FF0000000000000);
-    let infinite_low = Interval::new(0xFFF0000000000000, 0);
-    read_narrowing(stdout, 48, infinite, crossed, crossed, refused(1));
-    let second = refused(2);
-    read_narrowing(stdout, 64, infinite_low, crossed, one, second);
-    read_narrowing(stdout, 64, infinite, crossed, one, second);
-    read_narrowing(stdout, 64, crossed, infinite, one, second);
-    read_narrowing(stdout, 64, crossed, one, infinite, second);
-    let third = refused(3);
-    read_narrowing(stdout, 64, crossed, one, one, third);
-    read_narrowing(stdout, 64, one, crossed, one, third);
-    read_narrowing(stdout, 64, one, one, crossed, third);
-    read_narrowing(stdout, 64, one, one, one, refused(11));
-    read_narrowing(stdout, 32, one, one, one, second);
+fn read_refusals(out: Stdout) -> io::Result<()> {
+    let crossed = ends(TWO, ONE);
+    let infinite = ends(0, INFINITE);
+    let infinite_low = ends(MINUS_INFINITE, 0);
+    for (width, given, reason) in [
+        (48, [infinite, crossed, crossed], Reason::Width),
+        (64, [infinite_low, crossed, ONES], Reason::NotFinite),
+        (64, [infinite, crossed, ONES], Reason::NotFinite),
+        (64, [crossed, infinite, ONES], Reason::NotFinite),
+        (64, [crossed, ONES, infinite], Reason::NotFinite),
+        (64, [crossed, ONES, ONES], Reason::Reversed),
+        (64, [ONES, crossed, ONES], Reason::Reversed),
+        (64, [ONES, ONES, crossed], Reason::Reversed),
+        (64, [ONES, ONES, ONES], Reason::NoTriple),
+        (32, [ONES, ONES, ONES], Reason::NotFinite),
+    ] {
+        read_narrowing(out, width, given, refused_by(reason))?;
+    }
+    Ok(())
 }
 
-pub(crate) fn read_narrowings(stdout: Stdout) {
-    read_starred(stdout);
-    read_listing(stdout);
-    read_extremes(stdout);
-    read_refusals(stdout);
+pub(crate) fn read_narrowings(out: Stdout) -> io::Result<()> {
+    read_starred(out)?;
+    read_listing(out)?;
+    read_extremes(out)?;
+    read_refusals(out)
 }

@@ -1,55 +1,64 @@
-// Words, numbers, patterns and verdicts on standard output.
-ghost use Rattle.std.specs.Prelude.{◌≤◌};
-
+// What a line shows: patterns as their width writes them, an answer or its refusal, and whether that was expected.
+use arith::interval::Interval;
+use arith::refusal::{Reason, Refusal};
 use std::io::Stdout;
+use std::{fmt, io};
 
-pub(crate) fn put_text(stdout: Stdout, text: &[u8]) {
-    let _ = stdout.write_all(text);
-}
+// Patterns of a width, each after a space.
+#[derive(Clone, Copy)]
+pub(crate) struct At<'a>(pub(crate) u64, pub(crate) &'a [u64]);
 
-// A number in decimal, after a space.
-pub(crate) fn put_number(stdout: Stdout, n: u64) {
-    put_text(stdout, b" ");
-    let _ = stdout.print(n);
-}
-
-// A hexadecimal digit, a capital from ten on.
-fn put_digit(stdout: Stdout, n: u64) {
-    let d = (n % 16) as u8;
-    let capital = if d < 10 { 48 + d } else { 55 + d };
-    put_text(stdout, &[capital]);
-}
-
-// How many digits a pattern is written with: eight at width 32 if that holds it, else sixteen.
-fn digits_of(width: u64, p: u64) -> u64
-    ensures { result ≤ 16 }
-{
-    if width != 32 {
-        return 16;
-    }
-    if p < 0x1_0000_0000 { 8 } else { 16 }
-}
-
-// A pattern after a space.
-pub(crate) fn put_pattern(stdout: Stdout, width: u64, p: u64) {
-    put_text(stdout, b" ");
-    let n = digits_of(width, p);
-    for i in 0..n {
-        put_digit(stdout, p >> ((n - 1 - i) * 4));
+impl fmt::Display for At<'_> {
+    // Eight digits at width 32 where they hold the pattern, else sixteen.
+    fn fmt<W: fmt::Write>(&self, f: &mut fmt::Formatter<W>) -> fmt::Result {
+        for p in self.1 {
+            if self.0 == 32 && *p < 0x1_0000_0000 {
+                write!(f, " {p:08X}")?;
+            } else {
+                write!(f, " {p:016X}")?;
+            }
+        }
+        Ok(())
     }
 }
 
-// A refusal by its number.
-pub(crate) fn put_refused(stdout: Stdout, number: u64) {
-    put_text(stdout, b" refused");
-    put_number(stdout, number);
+// An interval's ends at a width, low then high.
+#[derive(Clone, Copy)]
+pub(crate) struct EndsAt(pub(crate) u64, pub(crate) Interval);
+
+impl fmt::Display for EndsAt {
+    fn fmt<W: fmt::Write>(&self, f: &mut fmt::Formatter<W>) -> fmt::Result {
+        let i = self.1;
+        write!(f, "{}", At(self.0, &[i.low, i.high]))
+    }
 }
 
-// The end of a line: whether what it shows is what was expected.
-pub(crate) fn put_verdict(stdout: Stdout, expected: bool) {
-    if expected {
-        put_text(stdout, b", as expected\n");
-        return;
+// The refusal for this reason at place 0.
+pub(crate) fn refused_by<A>(reason: Reason) -> Result<A, Refusal> {
+    Err(reason.at(0))
+}
+
+// What a call answers where it does not refuse.
+pub(crate) trait Answer: PartialEq {
+    // The answer, patterns as the width writes them.
+    fn show(&self, out: Stdout, width: u64) -> io::Result<()>;
+}
+
+// The rest of a line: the answer, and whether it is the one expected.
+pub(crate) fn conclude<A: Answer>(
+    out: Stdout,
+    width: u64,
+    got: &Result<A, Refusal>,
+    expected: bool,
+) -> io::Result<()> {
+    match got {
+        Ok(answer) => answer.show(out, width)?,
+        Err(r) => print!(out; " refused {}", r.reason.number())?,
     }
-    put_text(stdout, b", NOT AS EXPECTED\n");
+    let verdict = if expected {
+        "as expected"
+    } else {
+        "NOT AS EXPECTED"
+    };
+    println!(out; ", {verdict}")
 }

@@ -1,279 +1,167 @@
 // 01's forward sums and some more, with their marks, remainders and refusals, and one for each place in the order of refusals.
-use crate::print::{put_number, put_pattern, put_refused, put_text, put_verdict};
-use arith::sum::Sum;
+use crate::named::{
+    INFINITE, LARGEST, LEAST, MINUS_ONE, MINUS_ZERO, ONE, ONE_32, TIE_ABOVE, TIE_BELOW, TWO,
+};
+use crate::print::{Answer, At, conclude, refused_by};
+use arith::refusal::{Reason, Refusal};
+use arith::sum::{Mark, Sum, add};
+use std::io;
 use std::io::Stdout;
 
-// A sum's answer in numbers: refusal 0 stands for a sum.
-#[derive(Clone, Copy)]
-struct Reply {
-    refusal: u64,
-    place: u64,
-    pattern: u64,
-    mark: u64,
-    remainder: u64,
-}
-
-fn reply_of(answer: Sum) -> Reply {
-    match answer {
-        Sum::Is {
-            pattern,
-            mark,
-            remainder,
-        } => Reply {
-            refusal: 0,
-            place: 0,
-            pattern,
-            mark,
-            remainder,
-        },
-        Sum::Refused(r) => Reply {
-            refusal: r.number,
-            place: r.place,
-            pattern: 0,
-            mark: 0,
-            remainder: 0,
-        },
+impl Answer for Sum {
+    fn show(&self, out: Stdout, width: u64) -> io::Result<()> {
+        let mark = self.mark.number();
+        print!(out;
+            " ={} mark {mark} remainder{}",
+            At(width, &[self.pattern]),
+            At(width, &[self.remainder])
+        )
     }
 }
 
-fn equal(r: Reply, s: Reply) -> bool {
-    let refusals = (r.refusal == s.refusal) & (r.place == s.place);
-    refusals & (r.pattern == s.pattern) & (r.mark == s.mark) & (r.remainder == s.remainder)
-}
-
-fn put_reply(stdout: Stdout, width: u64, r: Reply) {
-    if r.refusal != 0 {
-        put_refused(stdout, r.refusal);
-        return;
-    }
-    put_text(stdout, b" =");
-    put_pattern(stdout, width, r.pattern);
-    put_text(stdout, b" mark");
-    put_number(stdout, r.mark);
-    put_text(stdout, b" remainder");
-    put_pattern(stdout, width, r.remainder);
+// A sum that is not refused.
+fn sum_of(pattern: u64, mark: Mark, remainder: u64) -> Result<Sum, Refusal> {
+    Ok(Sum {
+        pattern,
+        mark,
+        remainder,
+    })
 }
 
 // A line with the sum as answered, and whether that is the answer expected.
-fn read(stdout: Stdout, width: u64, x: u64, a: u64, expected: Reply) {
-    let got = reply_of(arith::sum::add(width, x, a));
-    put_text(stdout, b"sum");
-    put_number(stdout, width);
-    put_pattern(stdout, width, x);
-    put_pattern(stdout, width, a);
-    put_reply(stdout, width, got);
-    put_verdict(stdout, equal(got, expected));
-}
-
-fn read_sum(stdout: Stdout, width: u64, x: u64, a: u64, pattern: u64, mark: u64, remainder: u64) {
-    read(
-        stdout,
-        width,
-        x,
-        a,
-        Reply {
-            refusal: 0,
-            place: 0,
-            pattern,
-            mark,
-            remainder,
-        },
-    );
-}
-
-fn read_refusal(stdout: Stdout, width: u64, x: u64, a: u64, refusal: u64) {
-    read(
-        stdout,
-        width,
-        x,
-        a,
-        Reply {
-            refusal,
-            place: 0,
-            pattern: 0,
-            mark: 0,
-            remainder: 0,
-        },
-    );
+fn read(out: Stdout, width: u64, x: u64, a: u64, expected: Result<Sum, Refusal>) -> io::Result<()> {
+    print!(out; "sum {width}{}", At(width, &[x, a]))?;
+    let got = add(width, x, a);
+    conclude(out, width, &got, got == expected)
 }
 
 // Ties, neighbours of ties, the smallest floats and the largest.
-fn read_starred(stdout: Stdout) {
-    read_sum(
-        stdout,
-        64,
-        0x3FF0000000000000,
-        0x3CA0000000000000,
-        0x3FF0000000000000,
-        1,
-        0x3CA0000000000000,
-    );
-    read_sum(
-        stdout,
-        64,
-        0x3FF0000000000000,
-        0x3CA0000000000001,
-        0x3FF0000000000001,
-        1,
-        0xBC9FFFFFFFFFFFFE,
-    );
-    read_sum(
-        stdout,
-        64,
-        0x0000000000000001,
-        0x0000000000000001,
-        0x0000000000000002,
-        0,
-        0x0000000000000000,
-    );
-    read_sum(
-        stdout,
-        64,
-        0x7FEFFFFFFFFFFFFF,
-        0x7C80000000000000,
-        0x7FEFFFFFFFFFFFFF,
-        1,
-        0x7C80000000000000,
-    );
-    read_refusal(stdout, 64, 0x7FEFFFFFFFFFFFFF, 0x7C90000000000000, 9);
-    read_sum(
-        stdout, 32, 0x3F800000, 0x33800000, 0x3F800000, 1, 0x33800000,
-    );
+fn read_starred(out: Stdout) -> io::Result<()> {
+    for (width, x, a, expected) in [
+        (64, ONE, TIE_ABOVE, sum_of(ONE, Mark::Rounded, TIE_ABOVE)),
+        (
+            64,
+            ONE,
+            TIE_ABOVE + 1,
+            sum_of(ONE + 1, Mark::Rounded, 0xBC9FFFFFFFFFFFFE),
+        ),
+        (64, 1, 1, sum_of(2, Mark::Exact, 0)),
+        (
+            64,
+            LARGEST,
+            0x7C80000000000000,
+            sum_of(LARGEST, Mark::Rounded, 0x7C80000000000000),
+        ),
+        (
+            64,
+            LARGEST,
+            0x7C90000000000000,
+            refused_by(Reason::Overflow),
+        ),
+        (
+            32,
+            ONE_32,
+            0x33800000,
+            sum_of(ONE_32, Mark::Rounded, 0x33800000),
+        ),
+    ] {
+        read(out, width, x, a, expected)?;
+    }
+    Ok(())
 }
 
 // Zero has one pattern; below a power of two the floats are twice as dense.
-fn read_signs(stdout: Stdout) {
-    read_sum(
-        stdout,
-        64,
-        0x8000000000000000,
-        0x8000000000000000,
-        0x0000000000000000,
-        0,
-        0x0000000000000000,
-    );
-    read_sum(
-        stdout,
-        64,
-        0x3FF0000000000000,
-        0xBFF0000000000000,
-        0x0000000000000000,
-        0,
-        0x0000000000000000,
-    );
-    read_sum(
-        stdout,
-        64,
-        0x3FF0000000000000,
-        0xBC90000000000000,
-        0x3FF0000000000000,
-        1,
-        0xBC90000000000000,
-    );
-    read_sum(
-        stdout,
-        64,
-        0x3FF0000000000000,
-        0xBC90000000000001,
-        0x3FEFFFFFFFFFFFFF,
-        1,
-        0x3C8FFFFFFFFFFFFE,
-    );
-    read_refusal(stdout, 64, 0xFFEFFFFFFFFFFFFF, 0xFC90000000000000, 9);
-    read_sum(
-        stdout, 32, 0x00800000, 0x80000001, 0x007FFFFF, 0, 0x00000000,
-    );
-    read_refusal(stdout, 32, 0x7F7FFFFF, 0x73000000, 9);
+fn read_signs(out: Stdout) -> io::Result<()> {
+    for (width, x, a, expected) in [
+        (64, MINUS_ZERO, MINUS_ZERO, sum_of(0, Mark::Exact, 0)),
+        (64, ONE, MINUS_ONE, sum_of(0, Mark::Exact, 0)),
+        (64, ONE, TIE_BELOW, sum_of(ONE, Mark::Rounded, TIE_BELOW)),
+        (
+            64,
+            ONE,
+            TIE_BELOW + 1,
+            sum_of(ONE - 1, Mark::Rounded, 0x3C8FFFFFFFFFFFFE),
+        ),
+        (64, LEAST, 0xFC90000000000000, refused_by(Reason::Overflow)),
+        (
+            32,
+            0x00800000,
+            0x80000001,
+            sum_of(0x007FFFFF, Mark::Exact, 0),
+        ),
+        (32, 0x7F7FFFFF, 0x73000000, refused_by(Reason::Overflow)),
+    ] {
+        read(out, width, x, a, expected)?;
+    }
+    Ok(())
 }
 
 // What rounding left over: of a tie that went up, of a carry into the next binade, and of sums below zero.
-fn read_remainders(stdout: Stdout) {
-    read_sum(
-        stdout,
-        64,
-        0x3FF0000000000001,
-        0x3CA0000000000000,
-        0x3FF0000000000002,
-        1,
-        0xBCA0000000000000,
-    );
-    read_sum(
-        stdout,
-        64,
-        0x3FFFFFFFFFFFFFFF,
-        0x3CA8000000000000,
-        0x4000000000000000,
-        1,
-        0xBC90000000000000,
-    );
-    read_sum(
-        stdout,
-        64,
-        0xBFF0000000000000,
-        0xBCA0000000000001,
-        0xBFF0000000000001,
-        1,
-        0x3C9FFFFFFFFFFFFE,
-    );
-    read_sum(
-        stdout,
-        64,
-        0x3CA0000000000001,
-        0xBFF0000000000000,
-        0xBFEFFFFFFFFFFFFF,
-        1,
-        0x3960000000000000,
-    );
+fn read_remainders(out: Stdout) -> io::Result<()> {
+    for (x, a, expected) in [
+        (
+            ONE + 1,
+            TIE_ABOVE,
+            sum_of(ONE + 2, Mark::Rounded, 0xBCA0000000000000),
+        ),
+        (
+            TWO - 1,
+            0x3CA8000000000000,
+            sum_of(TWO, Mark::Rounded, 0xBC90000000000000),
+        ),
+        (
+            MINUS_ONE,
+            0xBCA0000000000001,
+            sum_of(MINUS_ONE + 1, Mark::Rounded, 0x3C9FFFFFFFFFFFFE),
+        ),
+        (
+            TIE_ABOVE + 1,
+            MINUS_ONE,
+            sum_of(MINUS_ONE - 1, Mark::Rounded, 0x3960000000000000),
+        ),
+    ] {
+        read(out, 64, x, a, expected)?;
+    }
+    Ok(())
 }
 
 // One unit left over: where the signs are opposite, and across a gap of more than a word, on either side of zero.
-fn read_units_left(stdout: Stdout) {
-    read_sum(
-        stdout,
-        64,
-        0x0040000000000000,
-        0x8000000000000003,
-        0x003FFFFFFFFFFFFF,
-        1,
-        0x0000000000000001,
-    );
-    read_sum(
-        stdout,
-        64,
-        0x7FEFFFFFFFFFFFFF,
-        0x0000000000000001,
-        0x7FEFFFFFFFFFFFFF,
-        1,
-        0x0000000000000001,
-    );
-    read_sum(
-        stdout,
-        64,
-        0xFFEFFFFFFFFFFFFF,
-        0x0000000000000001,
-        0xFFEFFFFFFFFFFFFF,
-        1,
-        0x0000000000000001,
-    );
-    read_sum(
-        stdout, 32, 0x01800000, 0x80000003, 0x017FFFFE, 1, 0x00000001,
-    );
+fn read_units_left(out: Stdout) -> io::Result<()> {
+    for (width, x, a, pattern) in [
+        (
+            64,
+            0x0040000000000000,
+            0x8000000000000003,
+            0x003FFFFFFFFFFFFF,
+        ),
+        (64, LARGEST, 1, LARGEST),
+        (64, LEAST, 1, LEAST),
+        (32, 0x01800000, 0x80000003, 0x017FFFFE),
+    ] {
+        read(out, width, x, a, sum_of(pattern, Mark::Rounded, 1))?;
+    }
+    Ok(())
 }
 
 // Refusals 1, 2 for x, 2 for a, and their order.
-fn read_refusals(stdout: Stdout) {
-    read_refusal(stdout, 0, 0x7FF0000000000000, 0x7FF0000000000000, 1);
-    read_refusal(stdout, 33, 0x3F800000, 0x3F800000, 1);
-    read_refusal(stdout, 64, 0x7FF0000000000000, 0x3FF0000000000000, 2);
-    read_refusal(stdout, 64, 0x7FEFFFFFFFFFFFFF, 0xFFF8000000000000, 2);
-    read_refusal(stdout, 32, 0x100000000, 0x3F800000, 2);
-    read_refusal(stdout, 32, 0x3F800000, 0x7F800001, 2);
+fn read_refusals(out: Stdout) -> io::Result<()> {
+    for (width, x, a, reason) in [
+        (0, INFINITE, INFINITE, Reason::Width),
+        (33, ONE_32, ONE_32, Reason::Width),
+        (64, INFINITE, ONE, Reason::NotFinite),
+        (64, LARGEST, 0xFFF8000000000000, Reason::NotFinite),
+        (32, 0x100000000, ONE_32, Reason::NotFinite),
+        (32, ONE_32, 0x7F800001, Reason::NotFinite),
+    ] {
+        read(out, width, x, a, refused_by(reason))?;
+    }
+    Ok(())
 }
 
-pub(crate) fn read_sums(stdout: Stdout) {
-    read_starred(stdout);
-    read_signs(stdout);
-    read_remainders(stdout);
-    read_units_left(stdout);
-    read_refusals(stdout);
+pub(crate) fn read_sums(out: Stdout) -> io::Result<()> {
+    read_starred(out)?;
+    read_signs(out)?;
+    read_remainders(out)?;
+    read_units_left(out)?;
+    read_refusals(out)
 }

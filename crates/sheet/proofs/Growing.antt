@@ -1,5 +1,6 @@
 -- Sheets made by opening, tidying and adding: each passes the test, and what has no fault and finds room is added. So a caller that tests faults itself is never refused.
 -- Assumes nothing.
+use Rattle.std.specs.Prelude.{Ok, Err}
 use mathlib.Core.Path.{◌≡◌, refl, sym, ap, ◌∙◌}
 use mathlib.Core.List.{List, map}
 use Prim.Native.Nat.{ℕ, ◌+◌, ◌-◌, ◌<◌, ◌≤◌}
@@ -12,10 +13,9 @@ use borrow.Author.Tests.{lt-ltb}
 use Rattle.arith.specs.declared.interval.Interval.{Interval}
 use Rattle.sheet.specs.declared.kept.Record.{Record}
 use Rattle.sheet.specs.declared.kept.Sheet.{Sheet}
-use Rattle.sheet.specs.declared.kept.Answer.TheVariants.{Done}
 use Rattle.sheet.specs.declared.kept.Kept.{Kept}
 use Rattle.sheet.specs.Cells.{canonical_cell}
-use Rattle.sheet.specs.Faults.{head_fault, cell_fault, record_fault}
+use Rattle.sheet.specs.Faults.{Fault, head_fault, cell_fault, record_fault}
 use Rattle.sheet.specs.Sheets.{no_cell, no_record, blank, used_cells, used_records, tidied, first_fault, test_of, Sound, with_cell, with_record, open_of, add_cell_of, add_record_of}
 use Rattle.sheet.proofs.Firsts.{faultless_at, none_found}
 use Rattle.sheet.proofs.Filling.{get_d_under, length_filled}
@@ -28,11 +28,11 @@ use Rattle.sheet.proofs.Tidied.{cells_counted, records_counted, tidied_record}
 record Good (s : Sheet) : Type 0 where
   cells_long : length s.cells ≡ 64
   records_long : length s.records ≡ 128
-  head : head_fault s.width s.limit ≡ 0
+  head : head_fault s.width s.limit ≡ Ok tt
   few_cells : s.cell_count ≤ 64
   few_records : s.record_count ≤ 128
-  cells : (i : ℕ) → i < s.cell_count → cell_fault s.width (get_or s.cells i no_cell) ≡ 0
-  records : (k : ℕ) → k < s.record_count → record_fault s.cell_count (get_or s.records k no_record) ≡ 0
+  cells : (i : ℕ) → i < s.cell_count → cell_fault s.width (get_or s.cells i no_cell) ≡ Ok tt
+  records : (k : ℕ) → k < s.record_count → record_fault s.cell_count (get_or s.records k no_record) ≡ Ok tt
 
 good : (s : Sheet) → Sound s → Good s
 good s h =
@@ -51,7 +51,7 @@ good s h =
       records = λ k l. faultless_at (record_fault s.cell_count) no_record s.records s.record_count k (omega arith) p.records_good l;
     }
 
-first_none : {A : Type 0} (fault : A → ℕ) (d : A) (l : List A) (n : ℕ) → ((i : ℕ) → i < n → fault (get_or l i d) ≡ 0) → first_fault fault 0 (take n l) ≡ Done
+first_none : {A : Type 0} (fault : A → Fault) (d : A) (l : List A) (n : ℕ) → ((i : ℕ) → i < n → fault (get_or l i d) ≡ Ok tt) → first_fault fault 0 (take n l) ≡ Ok tt
 first_none fault d l n h = none_found fault d 0 (take n l) (λ i lt. let k : i < n = omega (arith, length-take n l) in ap fault (get_or-take n l i d k) ∙ h i k)
 
 sound : (s : Sheet) → Good s → Sound s
@@ -68,9 +68,9 @@ sound s g = record {
 }
 
 -- ---- opening
-pub open_sound : (width limit : ℕ) → head_fault width limit ≡ 0 → (◌≡◌ {A = Kept} (open_of width limit) (record { sheet = blank width limit; answer = Done })) × Sound (blank width limit)
+pub open_sound : (width limit : ℕ) → head_fault width limit ≡ Ok tt → (◌≡◌ {A = Kept} (open_of width limit) (record { sheet = blank width limit; answer = Ok tt })) × Sound (blank width limit)
 open_sound width limit z = (
-  sym (opened width limit (head_fault width limit) refl z),
+  sym (opened width limit z),
   sound (blank width limit) (record {
     cells_long = refl;
     records_long = refl;
@@ -123,7 +123,7 @@ one_more P l n v d lt h p i k = go (ℕ_discrete i n)
     go (yes e) = rw (e, get_or-set_same l n v d lt) p
     go (no e) = rw (get_or-set_other l n i v d e) (h i (omega arith))
 
-with_cell_lem : (s : Sheet) (cell : Interval) → Good s → s.cell_count < 64 → cell_fault s.width cell ≡ 0 → Good (with_cell s cell)
+with_cell_lem : (s : Sheet) (cell : Interval) → Good s → s.cell_count < 64 → cell_fault s.width cell ≡ Ok tt → Good (with_cell s cell)
 with_cell_lem s cell g lt z =
     let a = g.cells_long in
     record {
@@ -132,11 +132,11 @@ with_cell_lem s cell g lt z =
       head = g.head;
       few_cells = omega arith;
       few_records = g.few_records;
-      cells = one_more (λ c. cell_fault s.width c ≡ 0) s.cells s.cell_count cell no_cell (omega arith) g.cells z;
+      cells = one_more (λ c. cell_fault s.width c ≡ Ok tt) s.cells s.cell_count cell no_cell (omega arith) g.cells z;
       records = λ k l. record_more s.cell_count (get_or s.records k no_record) (g.records k l);
     }
 
-with_record_lem : (s : Sheet) (r : Record) → Good s → s.record_count < 128 → record_fault s.cell_count r ≡ 0 → Good (with_record s r)
+with_record_lem : (s : Sheet) (r : Record) → Good s → s.record_count < 128 → record_fault s.cell_count r ≡ Ok tt → Good (with_record s r)
 with_record_lem s r g lt z =
     let a = g.records_long in
     record {
@@ -146,14 +146,14 @@ with_record_lem s r g lt z =
       few_cells = g.few_cells;
       few_records = omega arith;
       cells = g.cells;
-      records = one_more (λ t. record_fault s.cell_count t ≡ 0) s.records s.record_count r no_record (omega arith) g.records z;
+      records = one_more (λ t. record_fault s.cell_count t ≡ Ok tt) s.records s.record_count r no_record (omega arith) g.records z;
     }
 
 -- a cell without a fault is added where there is room
 pub add_cell_sound :
-    (s : Sheet) (cell : Interval) → Sound s → cell_fault s.width cell ≡ 0 → s.cell_count < 64 →
+    (s : Sheet) (cell : Interval) → Sound s → cell_fault s.width cell ≡ Ok tt → s.cell_count < 64 →
     let next = with_cell (tidied s) (canonical_cell s.width cell) in
-    ◌≡◌ {A = Kept} (add_cell_of s cell) (record { sheet = next; answer = Done }) × Sound next
+    ◌≡◌ {A = Kept} (add_cell_of s cell) (record { sheet = next; answer = Ok tt }) × Sound next
 unfolding add_cell_of tidied
 add_cell_sound s cell h z lt = (
   sym (added s (with_cell (tidied s) (canonical_cell s.width cell)) (test_of s) (cell_fault s.width cell) (ltb s.cell_count 64) h.passes z (lt-ltb _ _ lt)),
@@ -162,9 +162,9 @@ add_cell_sound s cell h z lt = (
 
 -- and so is a record
 pub add_record_sound :
-    (s : Sheet) (r : Record) → Sound s → record_fault s.cell_count r ≡ 0 → s.record_count < 128 →
+    (s : Sheet) (r : Record) → Sound s → record_fault s.cell_count r ≡ Ok tt → s.record_count < 128 →
     let next = with_record (tidied s) r in
-    ◌≡◌ {A = Kept} (add_record_of s r) (record { sheet = next; answer = Done }) × Sound next
+    ◌≡◌ {A = Kept} (add_record_of s r) (record { sheet = next; answer = Ok tt }) × Sound next
 unfolding add_record_of tidied
 add_record_sound s r h z lt = (
   sym (added s (with_record (tidied s) r) (test_of s) (record_fault s.cell_count r) (ltb s.record_count 128) h.passes z (lt-ltb _ _ lt)),

@@ -1,5 +1,6 @@
 -- A sheet that the test lets pass: what is in use is as long as the counts say, and tidied it has the same records.
 -- Assumes nothing.
+use Rattle.std.specs.Prelude.{Ok, Err}
 use mathlib.Core.Path.{◌≡◌, sym, ap, ◌∙◌}
 use mathlib.Core.List.{List}
 use Prim.Native.Nat.{ℕ, ◌-◌, ◌<◌}
@@ -8,12 +9,11 @@ use lib.ListN.{length, get_or, replicate}
 use lib.Seq.{take_at, length-take-le, get_or-take}
 use Rattle.sheet.specs.declared.kept.Record.{Record}
 use Rattle.sheet.specs.declared.kept.Sheet.{Sheet}
-use Rattle.sheet.specs.declared.kept.Answer.TheVariants.{Done}
 use Rattle.sheet.specs.Sheets.{no_record, used_cells, used_records, tidied, test_of}
 use Rattle.sheet.proofs.Tested.{LetPass, tested}
 
 -- ---- in use
-module _ (s : Sheet) (t : test_of s ≡ Done) where
+module _ (s : Sheet) (t : test_of s ≡ Ok tt) where
   pub sheet_tested : LetPass s.width s.limit s.cell_count s.record_count (used_cells s) (used_records s)
   sheet_tested = tested s.width s.limit s.cell_count s.record_count (used_cells s) (used_records s) t
 
@@ -28,7 +28,7 @@ module _ (s : Sheet) (t : test_of s ≡ Done) where
       length-take-le s.record_count s.records (omega arith)
 
 -- ---- tidied
-module _ (s : Sheet) (long : length s.records ≡ 128) (t : test_of s ≡ Done) where
+module _ (s : Sheet) (long : length s.records ≡ 128) (t : test_of s ≡ Ok tt) where
   pub tidied_records : used_records (tidied s) ≡ used_records s
   unfolding tidied
   tidied_records = take_at (used_records s) (replicate (128 - s.record_count) no_record) s.record_count (records_counted s t long)

@@ -1,4 +1,5 @@
 pub mod Members
+pub mod Kinds
 pub mod Records
 pub mod Faults
 pub mod Boxes

@@ -1,14 +1,15 @@
 -- The kept sheet: what is in use, its one written form, its test in the order of lists, and the whole answers of opening, accepting and adding. Assumes nothing.
-use Rattle.std.specs.Prelude.{◌≡◌, Bool, cond, List, [], ◌∷◌, ◌++◌, map, ℕ, ◌+◌, ◌-◌, leb, ltb, eqb, length, replicate, take, set}
+use Rattle.std.specs.Prelude.{◌≡◌, Bool, cond, List, [], ◌∷◌, ◌++◌, map, ℕ, ◌+◌, ◌-◌, leb, ltb, eqb, length, replicate, take, set, Result, Ok, Err, is_ok, MatchResult}
 use Rattle.arith.specs.declared.interval.Interval.{Interval}
+use Rattle.arith.specs.declared.refusal.Reason.{Reason}
+use Rattle.arith.specs.declared.refusal.Refusal.{Refusal}
+use Rattle.arith.specs.Refusals.{refusal_at}
 use Rattle.sheet.specs.declared.kept.Record.{Record}
 use Rattle.sheet.specs.declared.kept.Sheet.{Sheet}
-use Rattle.sheet.specs.declared.kept.Answer.{Answer}
-use Rattle.sheet.specs.declared.kept.Answer.TheVariants.{Done, Refused}
 use Rattle.sheet.specs.declared.kept.Kept.{Kept}
 use Rattle.sheet.specs.Boxes.{Box}
 use Rattle.sheet.specs.Cells.{canonical_cell, cells_of}
-use Rattle.sheet.specs.Faults.{head_fault, cell_fault, record_fault}
+use Rattle.sheet.specs.Faults.{Fault, head_fault, cell_fault, record_fault}
 
 -- ---- places
 -- what an unused place of a cell holds
@@ -72,27 +73,32 @@ with_cells s cells =
     }
 
 -- ---- answers
--- the refusal of a number at a place
-abbrev pub refused_at : ℕ → ℕ → Answer
-refused_at number place = Refused (record { number = number; place = place })
+-- how a call on a sheet went
+abbrev pub Answer : Type 0
+Answer = Result Unit Refusal
 
 -- the second test where the first passed
 abbrev pub and_then : Answer → Answer → Answer
-and_then Done next = next
-and_then (Refused r) next = Refused r
+and_then (Ok u) next = next
+and_then (Err r) next = Err r
 
--- passed where the test holds, else the refusal of the number at the place
-abbrev pub require : Bool → ℕ → ℕ → Answer
-require ok number place = cond ok Done (refused_at number place)
+-- passed where the test holds, else the refusal of the reason at the place
+abbrev pub require : Bool → Reason → ℕ → Answer
+require ok reason place = cond ok (Ok tt) (Err (refusal_at reason place))
 
--- a fault's number, at a place
-abbrev pub fault_at : ℕ → ℕ → Answer
-fault_at number place = require (eqb number 0) number place
+-- a fault's reason; where there is no fault, one that nothing reads
+abbrev pub reason_of : Fault → Reason
+reason_of (Ok u) = Reason.Malformed
+reason_of (Err reason) = reason
+
+-- a fault, at a place
+abbrev pub fault_at : Fault → ℕ → Answer
+fault_at fault place = require (is_ok fault) (reason_of fault) place
 
 -- the new sheet where nothing is refused, else the old one
 abbrev pub kept_by : Answer → Sheet → Sheet → Kept
-kept_by Done old new = record { sheet = new; answer = Done }
-kept_by (Refused r) old new = record { sheet = old; answer = Refused r }
+kept_by (Ok u) old new = record { sheet = new; answer = Ok tt }
+kept_by (Err r) old new = record { sheet = old; answer = Err r }
 
 -- ---- opening
 -- 1, 7; a refusal gives the sheet that is zero throughout
@@ -101,16 +107,16 @@ open_of width limit = kept_by (fault_at (head_fault width limit) 0) (blank 0 0) 
 
 -- ---- the test of a sheet handed in, in the order of lists
 -- the first of a list's members with a fault; its place is its index, counted from i on
-unfoldable pub first_fault : {A : Type 0} → (A → ℕ) → ℕ → List A → Answer
-first_fault fault i [] = Done
+unfoldable pub first_fault : {A : Type 0} → (A → Fault) → ℕ → List A → Answer
+first_fault fault i [] = Ok tt
 first_fault fault i (v ∷ vs) = and_then (fault_at (fault v) i) (first_fault fault (i + 1) vs)
 
 -- 1; 7; 10 for the cells, then for the records, at the first index too many; 2 and 3 cell by cell; 4 and 5 record by record
 unfoldable pub test_lists : ℕ → ℕ → ℕ → ℕ → List Interval → List Record → Answer
 test_lists width limit cell_count record_count cells records =
     and_then (fault_at (head_fault width limit) 0)
-    (and_then (require (leb cell_count 64) 10 64)
-    (and_then (require (leb record_count 128) 10 128)
+    (and_then (require (leb cell_count 64) Reason.Full 64)
+    (and_then (require (leb record_count 128) Reason.Full 128)
     (and_then (first_fault (cell_fault width) 0 cells)
     (first_fault (record_fault cell_count) 0 records))))
 
@@ -126,16 +132,22 @@ test_of s = test_lists s.width s.limit s.cell_count s.record_count (used_cells s
 pub record Sound (s : Sheet) : Type 0 where
   pub cells_long : length s.cells ≡ 64
   pub records_long : length s.records ≡ 128
-  pub passes : test_of s ≡ Done
+  pub passes : test_of s ≡ Ok tt
 
 -- ---- accepting a sheet that is handed in: its test, then its written form
 unfoldable pub accept_of : Sheet → Kept
 accept_of s = kept_by (test_of s) s (tidied s)
 
 -- ---- adding
--- the sheet's own test, then the fault's number, then 10 where there is no room; place 0 for what is being added
-abbrev pub add_test : Answer → ℕ → Bool → Answer
-add_test tested fault room = and_then tested (and_then (fault_at fault 0) (require room 10 0))
+-- the sheet's own test, then the fault, then 10 where there is no room; place 0 for what is being added
+abbrev pub add_test : Answer → Fault → Bool → Answer
+add_test tested fault room = and_then tested (and_then (fault_at fault 0) (require room Reason.Full 0))
+
+-- the sheet tidied where these let pass, else the refusal
+abbrev pub Readies : Sheet → Fault → Bool → Result Sheet Refusal → Type 0
+Readies s fault room r =
+    let test = add_test (test_of s) fault room in
+    MatchResult r (λ next. (test ≡ Ok tt) × (next ≡ tidied s)) (λ q. test ≡ Err q)
 
 -- the sheet with a cell more
 abbrev pub with_cell : Sheet → Interval → Sheet

@@ -4,6 +4,8 @@
 pub mod accepting;
 pub mod adding;
 pub mod fault;
+mod item;
 pub mod kept;
+pub mod kind;
 mod testing;
 mod tidying;

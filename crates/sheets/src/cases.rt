@@ -1,25 +1,13 @@
-// Lists made of pseudo-random words, as arrays to lend and as places of a kept sheet.
+// Lists made of pseudo-random words.
+use crate::print::{NEG, UNKNOWN, of_kind};
 use arith::interval::Interval;
 use sheet::kept::Record;
+use std::array;
 
 // How many places the arrays have: two more than a sheet, of each kind.
 pub(crate) const CELLS: usize = 66;
 
-const RECORDS: usize = 130;
-
-// The same cells twice: to lend, and in the places of a sheet.
-#[derive(Drop)]
-pub(crate) struct Cells {
-    pub(crate) lent: [Interval; 66],
-    pub(crate) kept: [Interval; 64],
-}
-
-// The same records twice.
-#[derive(Drop)]
-pub(crate) struct Records {
-    pub(crate) lent: [Record; 130],
-    pub(crate) kept: [Record; 128],
-}
+pub(crate) const RECORDS: usize = 130;
 
 // The next pseudo-random word (Marsaglia's xorshift).
 pub(crate) fn next_word(s: u64) -> u64 {
@@ -28,6 +16,25 @@ pub(crate) fn next_word(s: u64) -> u64 {
     b ^ (b << 17)
 }
 
+// Pseudo-random words, each from the one before.
+#[derive(Drop)]
+pub(crate) struct Words {
+    last: u64,
+}
+
+impl Words {
+    // The words after a seed.
+    pub(crate) fn new(seed: u64) -> Self {
+        Words { last: seed }
+    }
+
+    pub(crate) fn next(&mut self) -> u64 {
+        self.last = next_word(self.last);
+        self.last
+    }
+}
+
+// The sign bit.
 fn sign_of(width: u64) -> u64 {
     if width == 32 {
         0x8000_0000
@@ -77,13 +84,7 @@ fn cell_of(width: u64, calm: bool, w: u64) -> Interval {
 
 // A record of a kind over cells, with 0 as the third number of a neg.
 fn over_cells(kind: u64, x: u64, a: u64, b: u64) -> Record {
-    let third = if kind == 2 { 0 } else { b };
-    Record {
-        kind,
-        x,
-        a,
-        b: third,
-    }
+    of_kind(kind, x, a, if kind == NEG { 0 } else { b })
 }
 
 // A record over n cells, a sum, a diff or a neg: one cell of each third, in some cases x and b exchanged, in some a cell named more than once, in four of 256 a faulty one; 0 1 2 where there are fewer than three cells.
@@ -100,9 +101,9 @@ fn record_of(n: u64, calm: bool, w: u64) -> Record {
         return over_cells(kind, x, a, b);
     }
     match (w >> 24) % 256 {
-        0 => Record { kind: 2, x, a, b },
+        0 => of_kind(NEG, x, a, b),
         1 => over_cells(kind, n, a, b),
-        2 => over_cells(3, x, a, b),
+        2 => over_cells(UNKNOWN, x, a, b),
         3 => over_cells(w | 3, x, a, b),
         4..=11 => over_cells(kind, x, x, b),
         12..=19 => over_cells(kind, x, a, x),
@@ -113,39 +114,14 @@ fn record_of(n: u64, calm: bool, w: u64) -> Record {
     }
 }
 
-pub(crate) fn make_cells(width: u64, calm: bool, seed: u64) -> Cells {
-    let none = Interval { low: 0, high: 0 };
-    let mut lent = [none; 66];
-    let mut kept = [none; 64];
-    let mut w = seed;
-    for i in 0..CELLS {
-        w = next_word(w);
-        let cell = cell_of(width, calm, w);
-        lent[i] = cell;
-        if i < 64 {
-            kept[i] = cell;
-        }
-    }
-    Cells { lent, kept }
+// Cells for each place of the array that is lent.
+pub(crate) fn make_cells(width: u64, calm: bool, seed: u64) -> [Interval; CELLS] {
+    let mut words = Words::new(seed);
+    array::from_fn(|_| cell_of(width, calm, words.next()))
 }
 
-pub(crate) fn make_records(n: u64, calm: bool, seed: u64) -> Records {
-    let none = Record {
-        kind: 0,
-        x: 0,
-        a: 0,
-        b: 0,
-    };
-    let mut lent = [none; 130];
-    let mut kept = [none; 128];
-    let mut w = seed;
-    for k in 0..RECORDS {
-        w = next_word(w);
-        let record = record_of(n, calm, w);
-        lent[k] = record;
-        if k < 128 {
-            kept[k] = record;
-        }
-    }
-    Records { lent, kept }
+// Records over n cells for each place of the array that is lent.
+pub(crate) fn make_records(n: u64, calm: bool, seed: u64) -> [Record; RECORDS] {
+    let mut words = Words::new(seed);
+    array::from_fn(|_| record_of(n, calm, words.next()))
 }

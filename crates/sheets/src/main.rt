@@ -13,11 +13,13 @@ mod reply;
 mod tally;
 mod writing;
 
-fn main(rt: HostRuntime) {
-    let stdout = rt.stdout();
-    writing::read_rooms(stdout, building::build(stdout));
-    garbage::read_garbage(stdout);
-    lists::read_lists(stdout);
-    repeated::read_repeated(stdout);
-    compare::compare_lists(stdout);
+use std::io;
+
+fn main(rt: HostRuntime) -> io::Result<()> {
+    let out = rt.stdout();
+    writing::read_rooms(out, building::build(out)?)?;
+    garbage::read_garbage(out)?;
+    lists::read_lists(out)?;
+    repeated::read_repeated(out)?;
+    compare::compare_lists(out)
 }

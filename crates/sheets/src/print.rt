@@ -1,61 +1,47 @@
-// Words, numbers, intervals, records and verdicts on standard output.
+// What lines show of intervals and records.
 use arith::interval::Interval;
 use sheet::kept::Record;
-use std::io::Stdout;
+use sheet::kind::Kind;
+use std::fmt;
 
-pub(crate) fn put_text(stdout: Stdout, text: &[u8]) {
-    let _ = stdout.write_all(text);
+// The kinds of records that there are, and one that there is not: numbers, since a record that is handed in may hold any.
+pub(crate) const SUM: u64 = Kind::Sum as u64;
+
+pub(crate) const DIFF: u64 = Kind::Diff as u64;
+
+pub(crate) const NEG: u64 = Kind::Neg as u64;
+
+pub(crate) const UNKNOWN: u64 = 3;
+
+// A record of this kind over cells.
+pub(crate) fn of_kind(kind: u64, x: u64, a: u64, b: u64) -> Record {
+    Record { kind, x, a, b }
 }
 
-// A number in decimal, after a space.
-pub(crate) fn put_number(stdout: Stdout, n: u64) {
-    put_text(stdout, b" ");
-    let _ = stdout.print(n);
-}
+// An interval by its ends at width 64.
+#[derive(Clone, Copy)]
+pub(crate) struct Ends(pub(crate) Interval);
 
-// A hexadecimal digit, a capital from ten on.
-fn put_digit(stdout: Stdout, n: u64) {
-    let d = (n % 16) as u8;
-    let capital = if d < 10 { 48 + d } else { 55 + d };
-    put_text(stdout, &[capital]);
-}
-
-// A pattern of width 64, after a space.
-fn put_pattern(stdout: Stdout, p: u64) {
-    put_text(stdout, b" ");
-    for i in 0..16u64 {
-        put_digit(stdout, p >> ((15 - i) * 4));
+impl fmt::Display for Ends {
+    fn fmt<W: fmt::Write>(&self, f: &mut fmt::Formatter<W>) -> fmt::Result {
+        let Interval { low, high } = self.0;
+        write!(f, "{low:016X} {high:016X}")
     }
-}
-
-// An interval by its ends.
-pub(crate) fn put_interval(stdout: Stdout, i: Interval) {
-    put_pattern(stdout, i.low);
-    put_pattern(stdout, i.high);
 }
 
 // A record by the word for its kind, or by the kind where there is none, and its three numbers.
-pub(crate) fn put_record(stdout: Stdout, r: Record) {
-    let kind = r.kind;
-    match kind {
-        0 => put_text(stdout, b" sum"),
-        1 => put_text(stdout, b" diff"),
-        2 => put_text(stdout, b" neg"),
-        _ => {
-            put_text(stdout, b" kind");
-            put_number(stdout, kind);
-        }
-    }
-    put_number(stdout, r.x);
-    put_number(stdout, r.a);
-    put_number(stdout, r.b);
-}
+#[derive(Clone, Copy)]
+pub(crate) struct Named(pub(crate) Record);
 
-// The end of a line: whether what it shows is what was expected.
-pub(crate) fn put_verdict(stdout: Stdout, expected: bool) {
-    if expected {
-        put_text(stdout, b", as expected\n");
-        return;
+impl fmt::Display for Named {
+    fn fmt<W: fmt::Write>(&self, f: &mut fmt::Formatter<W>) -> fmt::Result {
+        let Record { kind, x, a, b } = self.0;
+        match Kind::try_from(kind) {
+            Ok(Kind::Sum) => write!(f, "sum")?,
+            Ok(Kind::Diff) => write!(f, "diff")?,
+            Ok(Kind::Neg) => write!(f, "neg")?,
+            Err(_) => write!(f, "kind {kind}")?,
+        }
+        write!(f, " {x} {a} {b}")
     }
-    put_text(stdout, b", NOT AS EXPECTED\n");
 }

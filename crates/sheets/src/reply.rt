@@ -1,55 +1,50 @@
-// An outcome in numbers.
+// How calls end, to be compared and shown.
+use arith::refusal::Refusal;
 use propagation::passes::Outcome;
+use std::fmt;
 
-// 1 settled and 2 stopped with the passes, 3 no triple with pass and record, 4 refused with number and place.
-#[derive(Clone, Copy)]
-pub(crate) struct Reply {
-    pub(crate) kind: u64,
-    pub(crate) first: u64,
-    pub(crate) second: u64,
+// Beside `Outcome`, so that a table of cases says a reply in one word and its numbers. How a run ended: settled or stopped with the passes, no triple with pass and record, or refused.
+#[derive(Clone, Copy, PartialEq, Eq)]
+pub(crate) enum Reply {
+    Settled(u64),
+    Stopped(u64),
+    NoTriple(u64, u64),
+    Fault(Refusal),
 }
 
-pub(crate) fn settled(passes: u64) -> Reply {
-    Reply {
-        kind: 1,
-        first: passes,
-        second: 0,
+impl Reply {
+    // The refusal of a run, if it was refused.
+    pub(crate) fn refusal(self) -> Result<(), Refusal> {
+        match self {
+            Reply::Fault(refused) => Err(refused),
+            _ => Ok(()),
+        }
+    }
+
+    // Whether a run that ended so has stored its box.
+    pub(crate) fn stores(self) -> bool {
+        matches!(self, Reply::Settled(_) | Reply::Stopped(_))
     }
 }
 
-pub(crate) fn stopped(passes: u64) -> Reply {
-    Reply {
-        kind: 2,
-        first: passes,
-        second: 0,
+impl From<Outcome> for Reply {
+    fn from(outcome: Outcome) -> Reply {
+        match outcome {
+            Outcome::Settled { passes } => Reply::Settled(passes),
+            Outcome::NoTriple { pass, record } => Reply::NoTriple(pass, record),
+            Outcome::Stopped { passes } => Reply::Stopped(passes),
+            Outcome::Refused(r) => Reply::Fault(r),
+        }
     }
 }
 
-pub(crate) fn no_triple(pass: u64, record: u64) -> Reply {
-    Reply {
-        kind: 3,
-        first: pass,
-        second: record,
+impl fmt::Display for Reply {
+    fn fmt<W: fmt::Write>(&self, f: &mut fmt::Formatter<W>) -> fmt::Result {
+        match self {
+            Reply::Settled(passes) => write!(f, "settled {passes} 0"),
+            Reply::Stopped(passes) => write!(f, "stopped {passes} 0"),
+            Reply::NoTriple(pass, record) => write!(f, "none {pass} {record}"),
+            Reply::Fault(refused) => write!(f, "{refused}"),
+        }
     }
-}
-
-pub(crate) fn refused(number: u64, place: u64) -> Reply {
-    Reply {
-        kind: 4,
-        first: number,
-        second: place,
-    }
-}
-
-pub(crate) fn reply_of(outcome: Outcome) -> Reply {
-    match outcome {
-        Outcome::Settled { passes } => settled(passes),
-        Outcome::NoTriple { pass, record } => no_triple(pass, record),
-        Outcome::Stopped { passes } => stopped(passes),
-        Outcome::Refused(r) => refused(r.number, r.place),
-    }
-}
-
-pub(crate) fn equal(r: Reply, s: Reply) -> bool {
-    (r.kind == s.kind) & (r.first == s.first) & (r.second == s.second)
 }

@@ -1,80 +1,44 @@
 // What was compared: how many calls, how they ended, and how many differed.
-use crate::print::{put_number, put_text};
-use propagation::passes::Outcome;
-use std::io::Stdout;
+use crate::reply::Reply;
+use std::fmt;
 
-#[derive(Drop)]
+// Counts of calls, those of refusals by their numbers.
+#[derive(Drop, Default)]
 pub(crate) struct Tally {
-    pub(crate) settled: u64,
-    pub(crate) stopped: u64,
-    pub(crate) no_triple: u64,
-    pub(crate) differed: u64,
-    pub(crate) refused: [u64; 16],
+    settled: u64,
+    stopped: u64,
+    no_triple: u64,
+    refused: [u64; 16],
+    differed: u64,
 }
 
-pub(crate) fn nothing_yet() -> Tally {
-    let refused = [0; 16];
-    Tally {
-        settled: 0,
-        stopped: 0,
-        no_triple: 0,
-        differed: 0,
-        refused,
+impl Tally {
+    // One call more, that ended so, and agreed or differed.
+    pub(crate) fn count(&mut self, reply: Reply, agrees: bool) {
+        let counted = match reply {
+            Reply::Settled(_) => &mut self.settled,
+            Reply::Stopped(_) => &mut self.stopped,
+            Reply::NoTriple(..) => &mut self.no_triple,
+            Reply::Fault(refused) => &mut self.refused[(refused.reason.number() % 16) as usize],
+        };
+        *counted = counted.wrapping_add(1);
+        self.differed = self.differed.wrapping_add(u64::from(!agrees));
     }
 }
 
-fn more(n: u64) -> u64 {
-    std::num::wrapping_add_u64(n, 1)
-}
-
-// One call more, that ended so.
-pub(crate) fn count_outcome(tally: Tally, outcome: Outcome) -> Tally {
-    let mut next = tally;
-    match outcome {
-        Outcome::Settled { .. } => next.settled = more(next.settled),
-        Outcome::Stopped { .. } => next.stopped = more(next.stopped),
-        Outcome::NoTriple { .. } => next.no_triple = more(next.no_triple),
-        Outcome::Refused(r) => {
-            let at = (r.number % 16) as usize;
-            next.refused[at] = more(next.refused[at]);
+impl fmt::Display for Tally {
+    // Of the refusals each one that came.
+    fn fmt<W: fmt::Write>(&self, f: &mut fmt::Formatter<W>) -> fmt::Result {
+        write!(
+            f,
+            "settled {}, stopped {}, no triple {}",
+            self.settled, self.stopped, self.no_triple,
+        )?;
+        for (number, n) in self.refused.iter().enumerate() {
+            if *n != 0 {
+                write!(f, ", refused {number}: {n}")?;
+            }
         }
+        write!(f, "; differed {}", self.differed)
     }
-    next
-}
-
-// One call more, that differed or not.
-pub(crate) fn count_verdict(tally: Tally, agrees: bool) -> Tally {
-    let mut next = tally;
-    if !agrees {
-        next.differed = more(next.differed);
-    }
-    next
-}
-
-fn put(stdout: Stdout, text: &[u8], n: u64) {
-    put_text(stdout, text);
-    put_number(stdout, n);
-}
-
-// Each refusal that came, with how often.
-fn put_refused(stdout: Stdout, refused: [u64; 16]) {
-    for i in 0..16 {
-        let n = refused[i];
-        if n != 0 {
-            put(stdout, b", refused", i as u64);
-            put(stdout, b":", n);
-        }
-    }
-}
-
-// A line for what was compared, after its name.
-pub(crate) fn put_tally(stdout: Stdout, name: &[u8], t: Tally) {
-    put_text(stdout, name);
-    put(stdout, b" settled", t.settled);
-    put(stdout, b", stopped", t.stopped);
-    put(stdout, b", no triple", t.no_triple);
-    let refused = t.refused;
-    put_refused(stdout, refused);
-    put(stdout, b"; differed", t.differed);
-    put_text(stdout, b"\n");
 }

@@ -1,64 +1,36 @@
 // The writer over kept sheets: its length or refusal, the bytes after the listing, and the listing.
-use crate::print::{put_number, put_text};
-use listing::writer::{Written, write};
+use listing::writer::write;
 use sheet::kept::Sheet;
+use std::io;
 use std::io::Stdout;
 
 // Whether every byte from a position on is 255.
-pub(crate) fn untouched(out: &[u8], from: usize) -> bool {
-    for i in from..out.len() {
-        if out[i] != 255 {
-            return false;
-        }
-    }
-    true
+pub(crate) fn untouched(room: &[u8], from: usize) -> bool {
+    room.iter().skip(from).all(|byte| *byte == 255)
 }
 
-// The end of a line: whether the bytes after the listing are as they were.
-fn put_rest(stdout: Stdout, kept: bool) {
-    if kept {
-        put_text(stdout, b", the other bytes kept\n");
-        return;
+// A line for the listing in a buffer, which is filled with bytes 255 before, with whether those after it are so still; then the listing.
+fn read_room(out: Stdout, sheet: Sheet, room: &mut [u8]) -> io::Result<()> {
+    room.fill(255);
+    let length = write(sheet, room);
+    print!(out; "write, room {}: ", room.len())?;
+    match length {
+        Ok(n) => print!(out; "length {n}")?,
+        Err(refused) => print!(out; "{refused}")?,
     }
-    put_text(stdout, b", OTHER BYTES CHANGED\n");
-}
-
-// The first n bytes of a buffer. The test always holds: it is only the bound for the slice.
-fn put_first(stdout: Stdout, out: &[u8], n: usize) {
-    if n <= out.len() {
-        put_text(stdout, &out[..n]);
-    }
-}
-
-// A line for what was written into a buffer of bytes 255, with whether the others are so still; then the listing.
-fn show(stdout: Stdout, written: Written, out: &[u8]) {
-    put_text(stdout, b"write, room");
-    put_number(stdout, out.len() as u64);
-    match written {
-        Written::Refused(r) => {
-            put_text(stdout, b": refused");
-            put_number(stdout, r.number);
-            put_number(stdout, r.place);
-            put_rest(stdout, untouched(out, 0));
-        }
-        Written::Length(n) => {
-            put_text(stdout, b": length");
-            put_number(stdout, n as u64);
-            put_rest(stdout, untouched(out, n));
-            put_first(stdout, out, n);
-        }
-    }
+    let n = length.unwrap_or(0).min(room.len());
+    let rest = if untouched(room, n) {
+        "the other bytes kept"
+    } else {
+        "OTHER BYTES CHANGED"
+    };
+    println!(out; ", {rest}")?;
+    out.write_all(&room[..n])
 }
 
 // 01's listing, whose length is 133: with more room, with just enough, and with a byte less.
-pub(crate) fn read_rooms(stdout: Stdout, sheet: Sheet) {
-    let mut more = [255u8; 4096];
-    let written = write(sheet, &mut more);
-    show(stdout, written, &more);
-    let mut enough = [255u8; 133];
-    let written = write(sheet, &mut enough);
-    show(stdout, written, &enough);
-    let mut short = [255u8; 132];
-    let written = write(sheet, &mut short);
-    show(stdout, written, &short);
+pub(crate) fn read_rooms(out: Stdout, sheet: Sheet) -> io::Result<()> {
+    read_room(out, sheet, &mut [0; 4096])?;
+    read_room(out, sheet, &mut [0; 133])?;
+    read_room(out, sheet, &mut [0; 132])
 }

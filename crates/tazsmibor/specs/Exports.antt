@@ -1,8 +1,10 @@
 -- What a C program gets of the narrowing of one sum: 0 or the refusal number, and at 0 the six ends in the first 48 bytes of its buffer. Assumes nothing.
-use Rattle.std.specs.Prelude.{◌≡◌, cond, List, [], ◌∷◌, ◌++◌, ℕ, zero, suc, ◌+◌, ◌/◌, ◌%◌, eqb, leb, ltb, length, take, drop}
+use Rattle.std.specs.Prelude.{◌≡◌, cond, List, [], ◌∷◌, ◌++◌, ℕ, zero, suc, ◌+◌, ◌/◌, ◌%◌, eqb, leb, ltb, length, take, drop, Result, Ok, Err}
 use Rattle.arith.specs.declared.interval.Interval.{Interval}
 use Rattle.arith.specs.declared.narrow.Narrowed.{Narrowed}
-use Rattle.arith.specs.declared.narrow.Narrowed.TheVariants.{Ends, Refused}
+use Rattle.arith.specs.declared.refusal.Reason.{Reason}
+use Rattle.arith.specs.declared.refusal.Refusal.{Refusal}
+use Rattle.arith.specs.Refusals as Refusals
 use Rattle.arith.specs.Refusals.{refusal}
 use Rattle.arith.specs.Narrows.{narrow_of}
 use Rattle.arith.specs.Answers.{Reply}
@@ -32,19 +34,19 @@ placed i bs s = take i s ++ (bs ++ drop (i + length bs) s)
 
 -- ---- the answer, by the cases of the narrowing's
 -- the number returned, for a buffer of n bytes: refusal 13 is tested last
-abbrev pub export_number : ℕ → Narrowed → ℕ
-export_number n (Refused r) = r.number
-export_number n (Ends x a b) = cond (ltb n 48) 13 0
+abbrev pub export_number : ℕ → Result Narrowed Refusal → ℕ
+export_number n (Err r) = Refusals.number r.reason
+export_number n (Ok ends) = cond (ltb n 48) 13 0
 
 -- what the buffer then holds: on any refusal what it held, else the six ends, and later bytes kept
-abbrev pub export_buffer : List ℕ → Narrowed → List ℕ
-export_buffer s (Refused r) = s
-export_buffer s (Ends x a b) = cond (ltb (length s) 48) s (six_ends x a b ++ drop 48 s)
+abbrev pub export_buffer : List ℕ → Result Narrowed Refusal → List ℕ
+export_buffer s (Err r) = s
+export_buffer s (Ok ends) = cond (ltb (length s) 48) s (six_ends ends.x ends.a ends.b ++ drop 48 s)
 
 -- ---- the answer, by the reply due
 -- 13: the buffer has 48 bytes
 abbrev pub roomy : ℕ → Test
-roomy n = (leb 48 n, refusal 13)
+roomy n = (leb 48 n, refusal Reason.Short)
 
 -- 01's tests of one sum in their order, 13 last; then the six ends
 abbrev pub export_reply : ℕ → Interval → Interval → Interval → ℕ → Reply ℕ

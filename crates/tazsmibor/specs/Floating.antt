@@ -1,31 +1,40 @@
 -- The narrowing of one sum at width 64 with its result as floats: for each interval one float where both ends agree, two otherwise, or the word that there is none. Assumes nothing.
-use Rattle.std.specs.Prelude.{cond, List, [], ◌∷◌, ℕ, eqb}
+use Rattle.std.specs.Prelude.{cond, List, [], ◌∷◌, ℕ, eqb, Result, Ok, Err}
 use Rattle.std.specs.Float.{binary64}
 use Rattle.std.specs.Float.Ieee.{of_bits, to_bits}
 use Rattle.ladder.specs.Narrowing.{Narrowing, none, ends}
 use Rattle.arith.specs.declared.interval.Interval.{Interval}
 use Rattle.arith.specs.declared.narrow.Narrowed.{Narrowed}
+use Rattle.arith.specs.declared.refusal.Refusal.{Refusal}
+use Rattle.arith.specs.Refusals.{number}
 use Rattle.arith.specs.Formats.{format_of}
 use Rattle.arith.specs.Narrows.{written, narrow_of}
-use Rattle.arith.specs.Answers.{Reply, gives, refuses, two_ends}
+use Rattle.arith.specs.Answers.{Reply, told, two_ends}
 use Rattle.arith.specs.Replies.{in_triples}
 use Rattle.tazsmibor.specs.declared.floats.Floats.{Floats}
 use Rattle.tazsmibor.specs.declared.floats.Floats.TheVariants.{Point, Span, None}
-use Rattle.tazsmibor.specs.declared.floats.FloatAnswer.{FloatAnswer}
-use Rattle.tazsmibor.specs.declared.floats.FloatAnswer.TheVariants.{Values, Refused}
+use Rattle.tazsmibor.specs.declared.floats.FloatEnds.{FloatEnds}
 
 -- ---- the answer
 -- an interval of patterns as floats, each by its pattern
 unfoldable pub floats_of : Interval → Floats
 floats_of I = cond (eqb I.low I.high) (Point (of_bits binary64 I.low)) (Span (of_bits binary64 I.low) (of_bits binary64 I.high))
 
+-- three intervals of patterns as floats
+abbrev pub float_ends : Narrowed → FloatEnds
+float_ends n = record { x = floats_of n.x; a = floats_of n.a; b = floats_of n.b }
+
+-- none for all three
+abbrev pub no_floats : FloatEnds
+no_floats = record { x = None; a = None; b = None }
+
 -- the answer as floats: none for all three in place of refusal 11, and every other refusal as it is
-abbrev pub float_answer : Narrowed → FloatAnswer
-float_answer (Narrowed.Ends x a b) = Values (floats_of x) (floats_of a) (floats_of b)
-float_answer (Narrowed.Refused r) = cond (eqb r.number 11) (Values None None None) (Refused r)
+abbrev pub float_answer : Result Narrowed Refusal → Result FloatEnds Refusal
+float_answer (Ok n) = Ok (float_ends n)
+float_answer (Err r) = cond (eqb (number r.reason) 11) (Ok no_floats) (Err r)
 
 -- one sum at width 64: 2 for x, a, b; 3 for x, a, b; then the floats
-unfoldable pub narrow_floats_of : Interval → Interval → Interval → FloatAnswer
+unfoldable pub narrow_floats_of : Interval → Interval → Interval → Result FloatEnds Refusal
 narrow_floats_of x a b = float_answer (narrow_of 64 x a b)
 
 -- ---- what each case tells
@@ -35,10 +44,13 @@ float_patterns (Point v) = to_bits binary64 v ∷ []
 float_patterns (Span v w) = to_bits binary64 v ∷ to_bits binary64 w ∷ []
 float_patterns None = []
 
--- the answer: those of x, of a and of b
-abbrev pub floats_told : FloatAnswer → Reply (List ℕ)
-floats_told (Values x a b) = gives (float_patterns x ∷ float_patterns a ∷ float_patterns b ∷ [])
-floats_told (Refused r) = refuses r
+-- three intervals: those of x, of a and of b
+abbrev pub three_patterns : FloatEnds → List (List ℕ)
+three_patterns f = float_patterns f.x ∷ float_patterns f.a ∷ float_patterns f.b ∷ []
+
+-- the answer
+abbrev pub floats_told : Result FloatEnds Refusal → Reply (List ℕ)
+floats_told = told three_patterns
 
 -- ---- the values due, after 01's tests (arith specs/Replies)
 -- an interval's ends: one pattern where both agree, two otherwise

@@ -1,62 +1,52 @@
 // The narrowing of one sum for C programs: plain numbers in, a number and the ends' bytes out. The crate `tazsmibor_c` exports it.
-ghost use Rattle.std.specs.Prelude.{◌≡◌, ◌+◌, ◌≤◌, length};
-ghost use Rattle.tazsmibor.specs.Exports.{interval, little_endian, end_bytes, six_ends, placed, export_number, export_buffer, Exports};
+ghost use Rattle.std.specs.Prelude.{◌≡◌, ◌≤◌, length};
+ghost use Rattle.tazsmibor.specs.Exports.{interval, end_bytes, six_ends, placed, export_number, export_buffer, Exports};
 
 use arith::interval::Interval;
 use arith::narrow::{Narrowed, narrow};
+use arith::refusal::{Reason, Refusal};
 
-// The 8 bytes of a word, low byte first.
-fn put_word(out: &mut [u8], at: usize, word: u64)
-    requires { at + 8 ≤ length out.old }
-    ensures { out.new ≡ placed at (little_endian 8 word) out.old }
+// An interval's low end, then its high end, 8 bytes each, low byte first.
+#[tactic(auto, using(crate::proofs::Placing::ends_put))]
+fn put_ends(out: &mut [u8], i: Interval)
+    requires { length out.old ≡ 16 }
+    ensures { out.new ≡ end_bytes i }
 {
-    let mut rest = word;
-    let mut k = 0;
-    while k < 8 {
-        out[at + k] = (rest % 256) as u8;
-        rest = rest / 256;
-        k += 1;
-    }
-}
-
-// An interval's low end, then its high end.
-fn put_ends(out: &mut [u8], at: usize, i: Interval)
-    requires { at + 16 ≤ length out.old }
-    ensures { out.new ≡ placed at (end_bytes i) out.old }
-{
-    put_word(out, at, i.low);
-    put_word(out, at + 8, i.high);
+    out[..8].copy_from_slice(&i.low.to_le_bytes());
+    out[8..].copy_from_slice(&i.high.to_le_bytes());
 }
 
 // The six ends.
-fn put_all(out: &mut [u8], x: Interval, a: Interval, b: Interval)
+#[tactic(auto, using(crate::proofs::Placing::six_put))]
+fn put_all(out: &mut [u8], n: Narrowed)
     requires { 48 ≤ length out.old }
-    ensures { out.new ≡ placed 0 (six_ends x a b) out.old }
+    ensures { out.new ≡ placed 0 (six_ends n.x n.a n.b) out.old }
 {
-    put_ends(out, 0, x);
-    put_ends(out, 16, a);
-    put_ends(out, 32, b);
+    put_ends(&mut out[..16], n.x);
+    put_ends(&mut out[16..32], n.a);
+    put_ends(&mut out[32..48], n.b);
 }
 
 // The answer's number, and its ends in the buffer where there is room.
 #[tactic(auto, using(crate::proofs::Placing::room_number, crate::proofs::Placing::room_buffer))]
-pub fn put_answer(out: &mut [u8], answer: Narrowed) -> u64
+pub fn put_answer(out: &mut [u8], answer: Result<Narrowed, Refusal>) -> u64
     ensures value { result ≡ export_number (length out.old) answer }
     ensures out_after { out.new ≡ export_buffer out.old answer }
 {
     match answer {
-        Narrowed::Refused(refusal) => refusal.number,
-        Narrowed::Ends { x, a, b } => {
+        Err(refusal) => refusal.reason.number(),
+        Ok(narrowed) => {
             if out.len() < 48 {
-                return 13;
+                return Reason::Short.number();
             }
-            put_all(out, x, a, b);
+            put_all(out, narrowed);
             0
         }
     }
 }
 
 // 0 or the refusal number; at 0 the six ends, low then high, of x, a, b, in the first 48 bytes, 8 each, low byte first. On any refusal every byte is kept.
+#[tactic(auto, using(crate::proofs::Exporting::exported))]
 pub fn tazsmibor_narrow(
     width: u64,
     x_low: u64,

@@ -5,7 +5,9 @@ use arith::interval::Interval;
 use machine::narrow::narrow;
 use tazsmibor::entry::put_answer;
 
+// Its body is that of `tazsmibor_narrow` but for the narrowing: a function for both would take that as a closure, and so have a `requires`.
 // The answer of `tazsmibor_narrow`, sooner: 0 or the refusal number; at 0 the six ends in the first 48 bytes. On any refusal every byte is kept.
+#[tactic(auto, using(tazsmibor::proofs::Exporting::exported))]
 #[unsafe(no_mangle)]
 pub extern "C" fn tazsmibor_narrow_fast(
     width: u64,

@@ -1,21 +1,22 @@
 -- What a C program gets of the forward sum: 0 or the refusal number, and at 0 the pattern, the mark and the remainder in its three words. Assumes nothing.
-use Rattle.std.specs.Prelude.{◌≡◌, cond, List, [], ◌∷◌, ℕ, eqb}
+use Rattle.std.specs.Prelude.{◌≡◌, cond, List, [], ◌∷◌, ℕ, eqb, Result, Ok, Err}
 use Rattle.arith.specs.declared.sum.Sum.{Sum}
-use Rattle.arith.specs.declared.sum.Sum.TheVariants.{Is, Refused}
-use Rattle.arith.specs.Sums.{add_of}
+use Rattle.arith.specs.declared.refusal.Refusal.{Refusal}
+use Rattle.arith.specs.Refusals as Refusals
+use Rattle.arith.specs.Sums.{mark_number, add_of}
 use Rattle.arith.specs.Answers.{Reply}
 use Rattle.arith.specs.Replies.{reply_after, add_tests, add_values}
 
 -- ---- the answer, by the cases of the sum's
 -- the number returned
-abbrev pub sum_number : Sum → ℕ
-sum_number (Is p mark q) = 0
-sum_number (Refused r) = r.number
+abbrev pub sum_number : Result Sum Refusal → ℕ
+sum_number (Ok sum) = 0
+sum_number (Err r) = Refusals.number r.reason
 
 -- what the words then hold: the pattern, the mark and the remainder, or on a refusal what they held
-abbrev pub sum_words : List ℕ → Sum → List ℕ
-sum_words s (Is p mark q) = p ∷ mark ∷ q ∷ []
-sum_words s (Refused r) = s
+abbrev pub sum_words : List ℕ → Result Sum Refusal → List ℕ
+sum_words s (Ok sum) = sum.pattern ∷ mark_number sum.mark ∷ sum.remainder ∷ []
+sum_words s (Err r) = s
 
 -- ---- the answer, by the reply due
 -- 01's tests of the forward sum in their order; then its pattern, mark and remainder

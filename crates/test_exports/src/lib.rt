@@ -3,7 +3,7 @@
 
 ghost use Rattle.test_exports.specs.Exports.{ExportsSum};
 
-use arith::sum::{Sum, add};
+use arith::sum::add;
 
 // The forward sum: 0 with the pattern, the mark and the remainder in `out`, or the refusal number with `out` as it was.
 #[unsafe(no_mangle)]
@@ -11,14 +11,10 @@ pub extern "C" fn test_add(width: u64, x: u64, a: u64, out: &mut [u64; 3]) -> u6
     ensures { ExportsSum width x a out.old result out.new }
 {
     match add(width, x, a) {
-        Sum::Is {
-            pattern,
-            mark,
-            remainder,
-        } => {
-            *out = [pattern, mark, remainder];
+        Ok(sum) => {
+            *out = [sum.pattern, sum.mark.number(), sum.remainder];
             0
         }
-        Sum::Refused(refusal) => refusal.number,
+        Err(refusal) => refusal.reason.number(),
     }
 }

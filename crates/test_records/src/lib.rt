@@ -18,18 +18,9 @@ fn sheet_with(width: u64, ends: [u64; 6], record: Record) -> Sheet
     let mut sheet = blank_sheet(width, 1);
     sheet.cell_count = 3;
     sheet.record_count = 1;
-    sheet.cells[0] = Interval {
-        low: ends[0],
-        high: ends[1],
-    };
-    sheet.cells[1] = Interval {
-        low: ends[2],
-        high: ends[3],
-    };
-    sheet.cells[2] = Interval {
-        low: ends[4],
-        high: ends[5],
-    };
+    sheet.cells[0] = Interval::new(ends[0], ends[1]);
+    sheet.cells[1] = Interval::new(ends[2], ends[3]);
+    sheet.cells[2] = Interval::new(ends[4], ends[5]);
     sheet.records[0] = record;
     sheet
 }
@@ -38,9 +29,7 @@ fn sheet_with(width: u64, ends: [u64; 6], record: Record) -> Sheet
 fn ends_of(sheet: Sheet) -> [u64; 6]
     ensures { result ≡ ends_of sheet }
 {
-    let p = sheet.cells[0];
-    let q = sheet.cells[1];
-    let r = sheet.cells[2];
+    let [p, q, r, ..] = sheet.cells;
     [p.low, p.high, q.low, q.high, r.low, r.high]
 }
 
@@ -52,7 +41,7 @@ fn number_of(outcome: Outcome) -> u64
         Outcome::Settled { .. } => 0,
         Outcome::NoTriple { .. } => 11,
         Outcome::Stopped { .. } => 12,
-        Outcome::Refused(refusal) => refusal.number,
+        Outcome::Refused(refusal) => refusal.reason.number(),
     }
 }
 
@@ -69,8 +58,6 @@ pub extern "C" fn test_narrow_record(
     ensures { NarrowsRecord (sheet_with width ends.old (record { kind = kind; x = x; a = a; b = b })) ends.old result ends.new }
 {
     let run = narrow_sheet(sheet_with(width, *ends, Record { kind, x, a, b }));
-    let sheet = run.sheet;
-    let outcome = run.outcome;
-    *ends = ends_of(sheet);
-    number_of(outcome)
+    *ends = ends_of(run.sheet);
+    number_of(run.outcome)
 }

@@ -9,5 +9,5 @@ pub returns : goal.returns
 returns c =
     let F = c.args.format in
     let g = c.requires.0 in
-    above_absorbed F.fraction F.exponent g.sound.some (span c.args.x) g.ends g.order (omega (arith, c.requires.1, g.sound.sign)) _
+    above_absorbed F.fraction F.exponent F.sound.some (span c.args.x) g.ends g.order (omega (arith, c.requires.1, F.sound.sign)) _
     (subst (λ (y : ℕ). AbsorbsTo F y c.absorbs_to.result) c.max.ensures c.absorbs_to.ensures)

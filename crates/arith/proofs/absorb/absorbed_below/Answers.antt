@@ -11,6 +11,6 @@ returns c =
     let X = c.args.x in
     let g = c.requires.0 in
     subst (AbsorbedTo F X) (sym c.max.ensures)
-    (below_absorbed F.fraction F.exponent g.sound.some (span X) g.ends g.order (omega (arith, c.requires.1, g.sound.sign)) _ _
-    c.absorbs_to.ensures
-    (subst (λ (y : ℕ). AbsorbsTo F y c.absorbs_to-2.result) c.after_low.ensures c.absorbs_to-2.ensures))
+    (below_absorbed F.fraction F.exponent F.sound.some (span X) g.ends g.order (omega (arith, c.requires.1, F.sound.sign)) _ _
+    c.absorbs_to-first.ensures
+    (subst (λ (y : ℕ). AbsorbsTo F y c.absorbs_to.result) c.after_low.ensures c.absorbs_to.ensures))

@@ -6,21 +6,21 @@ use Rattle.arith.proofs.absorb.absorbs_to.Goals as goal
 
 pub returns-then-field-lt2 : goal.returns-then-field-lt2
 returns-then-field-lt2 c =
-    unit_step c.args.format c.requires.sound c.args.x c.requires.finite c.step_place.ensures c.shift_right-field.ensures c.if-field-lt2.true
+    unit_step c.args.format c.args.format.sound c.args.x c.requires.finite c.step_place.ensures c.shift_right-field.ensures c.if-field-lt2.true
 
 pub encode-requires : goal.encode-requires
 encode-requires c =
-    half_encodable c.args.format c.requires.sound c.args.x c.requires.finite c.step_place.ensures c.shift_right-field.ensures c.if-field-lt2.false
+    half_encodable c.args.format c.args.format.sound c.args.x c.requires.finite c.step_place.ensures c.shift_right-field.ensures c.if-field-lt2.false
 
 pub overflow_sub-result : goal.overflow_sub-result
 overflow_sub-result c =
-    omega (arith, half_some c.args.format c.requires.sound c.args.x c.requires.finite c.step_place.ensures c.shift_right-field.ensures c.if-field-lt2.false _ c.encode.ensures)
+    omega (arith, half_some c.args.format c.args.format.sound c.args.x c.requires.finite c.step_place.ensures c.shift_right-field.ensures c.if-field-lt2.false _ c.encode.ensures)
 
 pub overflow_add-result : goal.overflow_add-result
 overflow_add-result c =
     let F = c.args.format in
-    omega (arith, c.requires.sound.word, infinity_lt F c.requires.sound, half_fits F c.requires.sound c.args.x c.requires.finite c.step_place.ensures c.shift_right-field.ensures c.if-field-lt2.false _ c.encode.ensures)
+    omega (arith, c.args.format.sound.word, infinity_lt F c.args.format.sound, half_fits F c.args.format.sound c.args.x c.requires.finite c.step_place.ensures c.shift_right-field.ensures c.if-field-lt2.false _ c.encode.ensures)
 
 pub returns : goal.returns
 returns c =
-    half_step c.args.format c.requires.sound c.args.x c.requires.finite c.step_place.ensures c.shift_right-field.ensures c.if-field-lt2.false _ c.encode.ensures
+    half_step c.args.format c.args.format.sound c.args.x c.requires.finite c.step_place.ensures c.shift_right-field.ensures c.if-field-lt2.false _ c.encode.ensures

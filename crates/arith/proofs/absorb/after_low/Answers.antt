@@ -5,5 +5,5 @@ use Rattle.arith.proofs.absorb.after_low.Goals as goal
 
 pub overflow_add-x : goal.overflow_add-x
 overflow_add-x c =
-    let ok = c.requires.sound in
+    let ok = c.args.format.sound in
     omega (arith, ok.sign, ok.infinity, ok.word, c.requires.ends.low.high, infinity_lt c.args.format ok)

@@ -5,5 +5,5 @@ use Rattle.arith.proofs.absorb.before_high.Goals as goal
 
 pub overflow_sub-x : goal.overflow_sub-x
 overflow_sub-x c =
-    let ok = c.requires.sound in
+    let ok = c.args.format.sound in
     omega (arith, ok.sign, ok.infinity, c.requires.ends.high.low, infinity_lt c.args.format ok)

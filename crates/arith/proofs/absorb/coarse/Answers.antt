@@ -19,7 +19,7 @@ digits_are : (c : After-digits-n) → let a = c.args in c.digits-n.result ≡ si
 digits_are c = c.digits-n.ensures ∙ ap (λ (q : ℕ). size (q - 1)) (significand-is c.before.before)
 
 fits : (c : After-digits-n) → let a = c.args in (c.digits-n.result ≤ 53) × ((c.digits-n.result + 2) * 2 ^ a.format.fraction ≤ 55 * 2 ^ 52)
-fits c = coarse_fits c.args.format.fraction c.args.m c.digits-n.result c.requires.sound.few (digits_are c)
+fits c = coarse_fits c.args.format.fraction c.args.m c.digits-n.result c.args.format.sound.few (digits_are c)
 
 pub overflow_sub-p : goal.overflow_sub-p
 overflow_sub-p c =
@@ -34,11 +34,11 @@ overflow_add-n c = omega (arith, (fits (goal.at.overflow_add-n c).After-digits-n
 
 pub shift_left-requires : goal.shift_left-requires
 shift_left-requires c =
-    (omega (arith, c.requires.sound.few), omega (arith, (fits (goal.at.shift_left-requires c).After-digits-n).1))
+    (omega (arith, c.args.format.sound.few), omega (arith, (fits (goal.at.shift_left-requires c).After-digits-n).1))
 
 pub overflow_add-result : goal.overflow_add-result
 overflow_add-result c =
-    let ok = c.requires.sound in
+    let ok = c.args.format.sound in
     omega (arith, (fits (goal.at.overflow_add-result c).After-digits-n).1, c.shift_left.ensures, c.requires.finite, ok.word, infinity_lt c.args.format ok)
 
 pub returns : goal.returns

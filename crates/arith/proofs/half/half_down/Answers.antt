@@ -9,4 +9,4 @@ returns c =
     let F = c.args.format in
     let b = c.args.b in
     subst (GreatestHalf F b) (sym c.mirror_of-2.ensures)
-    (greatest_half F.fraction F.exponent c.requires.sound.some b c.requires.finite _ (subst (λ (m : ℕ). LeastHalf F m c.half_up-m.result) c.mirror_of.ensures c.half_up-m.ensures))
+    (greatest_half F.fraction F.exponent c.args.format.sound.some b c.requires.finite _ (subst (λ (m : ℕ). LeastHalf F m c.half_up-m.result) c.mirror_of.ensures c.half_up-m.ensures))

@@ -8,7 +8,7 @@ use Rattle.arith.proofs.half.half_up.Goals as goal
 pub returns-then-b-format : goal.returns-then-b-format
 returns-then-b-format c =
     let F = c.args.format in
-    let ok = c.requires.sound in
+    let ok = c.args.format.sound in
     let b = c.args.b in
     let l : b ≤ F.sign = c.if-b-format.true in
     let k = least_half_down F.fraction F.exponent ok.some b c.requires.finite (omega (arith, ok.sign)) in
@@ -17,7 +17,7 @@ returns-then-b-format c =
 pub returns : goal.returns
 returns c =
     let F = c.args.format in
-    let ok = c.requires.sound in
+    let ok = c.args.format.sound in
     let b = c.args.b in
     let l : F.sign < b = c.if-b-format.false in
     let k = least_half_up F.fraction F.exponent ok.some b c.requires.finite (omega (arith, ok.sign)) in

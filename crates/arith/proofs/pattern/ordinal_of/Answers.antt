@@ -3,7 +3,7 @@ use Rattle.arith.proofs.Formats.{ordinal_low, ordinal_high}
 use Rattle.arith.proofs.pattern.ordinal_of.Goals as goal
 
 pub returns-then-p-format : goal.returns-then-p-format
-returns-then-p-format c = ordinal_low _ c.requires.0 _ c.if-p-format.true
+returns-then-p-format c = ordinal_low c.args.format c.args.format.sound _ c.if-p-format.true
 
 pub returns : goal.returns
-returns c = ordinal_high _ c.requires.0 _ c.if-p-format.false
+returns c = ordinal_high c.args.format c.args.format.sound _ c.if-p-format.false

@@ -5,10 +5,10 @@ use Rattle.arith.proofs.pattern.pattern_of.Goals as goal
 
 pub overflow_add-result : goal.overflow_add-result
 overflow_add-result c =
-    omega (arith, c.requires.0.sign, c.requires.0.infinity, c.requires.0.word, c.requires.1.low, infinity_lt c.args.format c.requires.0)
+    omega (arith, c.args.format.sound.sign, c.args.format.sound.infinity, c.args.format.sound.word, c.requires.low, infinity_lt c.args.format c.args.format.sound)
 
 pub returns-then-r-format : goal.returns-then-r-format
-returns-then-r-format c = pattern_low _ c.requires.0 _ c.if-r-format.true
+returns-then-r-format c = pattern_low c.args.format c.args.format.sound _ c.if-r-format.true
 
 pub returns : goal.returns
-returns c = pattern_high _ c.requires.0 _ c.if-r-format.false
+returns c = pattern_high c.args.format c.args.format.sound _ c.if-r-format.false

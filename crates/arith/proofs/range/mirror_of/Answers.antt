@@ -5,8 +5,8 @@ use Rattle.arith.proofs.range.mirror_of.Goals as goal
 
 pub overflow_add-result : goal.overflow_add-result
 overflow_add-result c =
-    omega (arith, c.requires.0.sign, c.requires.0.infinity, c.requires.0.word, c.requires.1.low, infinity_lt c.args.format c.requires.0)
+    omega (arith, c.args.format.sound.sign, c.args.format.sound.infinity, c.args.format.sound.word, c.requires.low, infinity_lt c.args.format c.args.format.sound)
 
 pub overflow_sub-result-3 : goal.overflow_sub-result-3
 overflow_sub-result-3 c =
-    omega (arith, c.requires.0.sign, c.requires.0.infinity, c.requires.1.high, infinity_lt c.args.format c.requires.0)
+    omega (arith, c.args.format.sound.sign, c.args.format.sound.infinity, c.requires.high, infinity_lt c.args.format c.args.format.sound)

@@ -30,7 +30,7 @@ parted c =
     let lost = c.if-r.false in
     elim c.if-past.branch [
       | then-past w ↦ let h = le-leb _ _ w.if-past.true in
-          inl (h, rw w.steps-is (steps_past f t ok r R lost l.result l.ensures h (omega arith) w.wrapping_sub_u64-steps.result w.wrapping_sub_u64-steps.ensures.value (omega arith)))
+          inl (h, rw w.steps-is (steps_past f t ok r R lost l.result l.ensures h (omega arith) w.wrapping_neg-steps.result w.wrapping_neg-steps.ensures (omega arith)))
       | else-past w ↦ let h = lt-leb _ _ w.if-past.false in
           inr (h, rw w.steps-is (steps_short f t ok r R lost l.result l.ensures h))
     ]

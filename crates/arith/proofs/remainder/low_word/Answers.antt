@@ -1,5 +1,5 @@
 -- `arith::remainder::low_word` meets its contract. Assumes nothing.
-use Rattle.std.proofs.Common.{◌∙◌, arith}
+use Rattle.std.proofs.Common.{rules}
 use Rattle.arith.specs.Exacts.{steps_of}
 use Rattle.arith.proofs.Remainders.{low_more, low_less}
 use Rattle.arith.proofs.remainder.low_word.Goals as goal
@@ -8,10 +8,10 @@ pub returns-then-t : goal.returns-then-t
 unfolding steps_of
 returns-then-t c =
     let l = c.shift_wrapping-larger.ensures in
-    simp c.if-t.true (low_less _ c.args.t.smaller _ (c.wrapping_sub_u64.ensures.value ∙ l) c.requires (omega arith))
+    simp c.if-t.true (low_less _ c.args.t.smaller _ l c.requires (search rules))
 
 pub returns : goal.returns
 unfolding steps_of
 returns c =
     let l = c.shift_wrapping-larger.ensures in
-    simp c.if-t.false (low_more _ c.args.t.smaller _ _ l c.wrapping_add_u64.ensures.value)
+    simp c.if-t.false (low_more _ c.args.t.smaller _ l)

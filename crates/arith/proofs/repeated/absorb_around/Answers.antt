@@ -1,7 +1,6 @@
 -- `arith::repeated::absorb_around` meets its contract: every x stays, and the least a is found in the mirror. Assumes nothing.
-use Rattle.std.proofs.Common.{◌≡◌, ℕ, min, sym, ap, ◌∙◌, subst, ap₂}
+use Rattle.std.proofs.Common.{◌≡◌, ℕ, Some, min, sym, ap, ◌∙◌, subst, ap₂}
 use Rattle.arith.specs.declared.range.Range.{Range}
-use Rattle.arith.specs.declared.repeated.Couple.TheVariants.{Ends}
 use Rattle.arith.specs.Formats.{Finite, mirrored}
 use Rattle.arith.specs.Intervals.{reflected}
 use Rattle.arith.specs.PairSearches.{coupled, AbsorbedTo}
@@ -22,11 +21,11 @@ low_is c = c.min-low.ensures ∙ ap (λ (R : Range). min R.high c.absorbed_to-2.
 pub mirror_of-requires : goal.mirror_of-requires
 mirror_of-requires c =
     let F = c.args.format in
-    (c.requires.ranges.first.sound, subst (Finite F) (sym (low_is (goal.at.mirror_of-requires c).After-min-low)) (around_finite F c.args.x c.args.a c.requires.ranges c.requires.below _ (mirror-absorbed (goal.at.mirror_of-requires c).After-absorbed_to-2)))
+    (subst (Finite F) (sym (low_is (goal.at.mirror_of-requires c).After-min-low)) (around_finite F c.args.x c.args.a c.requires.ranges c.requires.below _ (mirror-absorbed (goal.at.mirror_of-requires c).After-absorbed_to-2)))
 
 pub returns : goal.returns
 returns c =
     let F = c.args.format in
     let X = c.args.x in
-    ap₂ (λ (y z : ℕ). coupled (Ends X (record { low = y; high = z }))) (c.mirror_of.ensures ∙ ap (mirrored F) (low_is (goal.at.returns c).After-min-low)) c.min-high.ensures
+    ap₂ (λ (y z : ℕ). coupled (Some (record { p = X; q = record { low = y; high = z } }))) (c.mirror_of.ensures ∙ ap (mirrored F) (low_is (goal.at.returns c).After-min-low)) c.min-high.ensures
     ∙ around_ends F X c.args.a c.requires.ranges c.requires.below c.requires.above _ _ c.absorbed_to.ensures (mirror-absorbed (goal.at.returns c).After-absorbed_to-2)

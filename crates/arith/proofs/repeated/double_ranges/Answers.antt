@@ -8,11 +8,11 @@ returns-then-not-ordered c =
 
 pub double-requires : goal.double-requires
 double-requires c =
-    record { sound = c.requires.first.sound; finite = (double_finite c.args.format c.args.x c.args.b c.requires c.half_up.ensures c.half_down.ensures c.shared-cut.ensures c.ordered.ensures c.if-not-ordered.false).low }
+    record { finite = (double_finite c.args.format c.args.x c.args.b c.requires c.half_up.ensures c.half_down.ensures c.shared-cut.ensures c.ordered.ensures c.if-not-ordered.false).low }
 
 pub double-requires-2 : goal.double-requires-2
 double-requires-2 c =
-    record { sound = c.requires.first.sound; finite = (double_finite c.args.format c.args.x c.args.b c.requires c.half_up.ensures c.half_down.ensures c.shared-cut.ensures c.ordered.ensures c.if-not-ordered.false).high }
+    record { finite = (double_finite c.args.format c.args.x c.args.b c.requires c.half_up.ensures c.half_down.ensures c.shared-cut.ensures c.ordered.ensures c.if-not-ordered.false).high }
 
 pub returns : goal.returns
 returns c =

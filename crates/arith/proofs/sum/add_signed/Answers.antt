@@ -8,5 +8,5 @@ returns c =
     let t = c.exact_sum-exact in
     let r = c.round_sum-rounding in
     let v = c.range_test-tested in
-    steps_sum F _ _ t.result r.result c.requires.sound t.ensures r.ensures v.result
-    (finite_ordinal F c.requires.sound c.args.x c.requires.x_finite) (finite_ordinal F c.requires.sound c.args.a c.requires.a_finite) v.ensures.is
+    steps_sum F _ _ t.result r.result c.args.format.sound t.ensures r.ensures v.result
+    (finite_ordinal F c.args.format.sound c.args.x c.requires.x_finite) (finite_ordinal F c.args.format.sound c.args.a c.requires.a_finite) v.ensures.is

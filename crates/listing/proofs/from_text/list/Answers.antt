@@ -1,4 +1,4 @@
--- `listing::from_text::list` meets its contract. Assumes nothing.
+-- `list` meets its contract. Assumes nothing.
 use Rattle.listing.proofs.Delivering.{bytes_written}
 use Rattle.listing.proofs.from_text.list.Goals as goal
 

@@ -1,8 +1,8 @@
--- `listing::writer::write` meets its contract: a refusal leaves the buffer, any other outcome is written. Assumes nothing.
+-- `write` meets its contract: a refusal leaves the buffer, any other outcome is written. Assumes nothing.
 use Rattle.arith.specs.declared.refusal.Refusal.{Refusal}
 use Rattle.propagation.specs.declared.passes.Outcome.{Outcome}
 use Rattle.propagation.specs.declared.passes.Outcome.TheVariants.{Settled, NoTriple, Stopped, Refused}
-use Rattle.listing.specs.declared.writer.Written.TheVariants as Written
+use Rattle.std.specs.Prelude.{Err}
 use mathlib.Core.Path.{◌≡◌, refl}
 use Rattle.listing.proofs.Delivering.{run_written}
 use Rattle.listing.specs.Buffers.{unless_refused, written_by, buffer_by}
@@ -28,5 +28,5 @@ returns c =
     let o = c.narrow_sheet-run.result.outcome in
     let k = c.in_default.not-Refused in
     run_written s.sheet s.out.now _ _
-    (rw (← c.narrow_sheet-run.ensures.answer, not_refused o Written.Refused _ k) c.write_run.ensures.0)
+    (rw (← c.narrow_sheet-run.ensures.answer, not_refused o Err _ k) c.write_run.ensures.0)
     (rw (← c.narrow_sheet-run.ensures.answer, not_refused o (λ _. s.out.now) _ k) c.write_run.ensures.1)

@@ -3,21 +3,21 @@ use lib.Dec.{leb}
 use Rattle.arith.specs.Formats.{ordinal}
 use Rattle.arith.proofs.Intervals.{ends_both}
 use Rattle.machine.specs.Floats.{machine}
-use Rattle.machine.proofs.Floats.{sound_machine, number_of}
+use Rattle.machine.proofs.Floats.{flag, sound_machine, number_of}
 use Rattle.machine.proofs.KnownEnds.{high_ready, high_end}
 use Rattle.machine.proofs.end.high_end.Goals as goal
 
 pub opposite-requires-3 : goal.opposite-requires-3
-opposite-requires-3 c =
-    let F = machine c.args.wide in
+opposite-requires-3 g c =
+    let F = machine (flag g.row.WIDE) in
     number_of F c.args.b.high (ends_both F c.args.b c.requires.finite).1
 
 pub least_end-t-requires : goal.least_end-t-requires
-least_end-t-requires c =
+least_end-t-requires g c =
     let p = c.args.p in
     let q = c.args.q in
-    let F = machine c.args.wide in
-    high_ready F (sound_machine c.args.wide) p q c.args.u c.args.b c.requires (leb (ordinal F q.sum) (ordinal F p.sum))
+    let F = machine (flag g.row.WIDE) in
+    high_ready F (sound_machine (flag g.row.WIDE)) p q c.args.u c.args.b c.requires (leb (ordinal F q.sum) (ordinal F p.sum))
     c.add.result
     c.greater.result
     c.opposite.result
@@ -30,11 +30,11 @@ least_end-t-requires c =
     c.opposite-3.ensures
 
 pub returns : goal.returns
-returns c =
+returns g c =
     let p = c.args.p in
     let q = c.args.q in
-    let F = machine c.args.wide in
-    high_end F (sound_machine c.args.wide) p q c.args.u c.args.b c.requires (leb (ordinal F q.sum) (ordinal F p.sum))
+    let F = machine (flag g.row.WIDE) in
+    high_end F (sound_machine (flag g.row.WIDE)) p q c.args.u c.args.b c.requires (leb (ordinal F q.sum) (ordinal F p.sum))
     c.add.result
     c.greater.result
     c.opposite.result

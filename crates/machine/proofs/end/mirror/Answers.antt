@@ -1,19 +1,19 @@
 -- `machine::end::mirror` meets its contract. Assumes nothing.
 use Rattle.arith.proofs.Intervals.{ends_both}
 use Rattle.machine.specs.Floats.{machine}
-use Rattle.machine.proofs.Floats.{number_of}
+use Rattle.machine.proofs.Floats.{flag, number_of}
 use Rattle.machine.proofs.KnownEnds.{ends_of_lem}
 use Rattle.machine.proofs.end.mirror.Goals as goal
 
 pub opposite-requires : goal.opposite-requires
-opposite-requires c = let F = machine c.args.wide in number_of F c.args.i.high (ends_both F c.args.i c.requires).1
+opposite-requires g c = let F = machine (flag g.row.WIDE) in number_of F c.args.i.high (ends_both F c.args.i c.requires).1
 
 pub opposite-requires-2 : goal.opposite-requires-2
-opposite-requires-2 c = let F = machine c.args.wide in number_of F c.args.i.low (ends_both F c.args.i c.requires).0
+opposite-requires-2 g c = let F = machine (flag g.row.WIDE) in number_of F c.args.i.low (ends_both F c.args.i c.requires).0
 
 pub returns : goal.returns
-returns c =
-    let F = machine c.args.wide in
+returns g c =
+    let F = machine (flag g.row.WIDE) in
     let e = ends_both F c.args.i c.requires in
     let l = c.opposite in
     let h = c.opposite-2 in

@@ -1,9 +1,9 @@
 -- `machine::float::canonical` meets its contract. Assumes nothing.
-use Rattle.machine.proofs.Floats.{sound_machine, canonical_zero, canonical_same}
+use Rattle.machine.proofs.Floats.{flag, sound_machine, canonical_zero, canonical_same}
 use Rattle.machine.proofs.float.canonical.Goals as goal
 
 pub returns-then-p-format : goal.returns-then-p-format
-returns-then-p-format c = canonical_zero _ _ c.format_at-format.ensures _ (sound_machine c.args.wide) c.requires c.if-p-format.true
+returns-then-p-format g c = canonical_zero _ _ c.format_at-format.ensures _ (sound_machine (flag g.row.WIDE)) c.requires c.if-p-format.true
 
 pub returns : goal.returns
-returns c = canonical_same _ _ c.format_at-format.ensures _ (sound_machine c.args.wide) c.requires c.if-p-format.false
+returns g c = canonical_same _ _ c.format_at-format.ensures _ (sound_machine (flag g.row.WIDE)) c.requires c.if-p-format.false

@@ -1,14 +1,12 @@
--- `machine::float::size` meets its contract. Assumes nothing.
-use mathlib.Core.Path.{◌∙◌}
-use lib.Ieee.{binary32, binary64}
-use Rattle.ladder.specs.Ordinal.{sign}
-use Rattle.machine.proofs.Floats.{wide_is, narrow_is, size_is}
+-- `machine::float::size` meets its contract: the remainder by the sign's weight. Assumes nothing.
+use mathlib.Core.Path.{ap}
+use native.Mathlib.Omega.{arith}
+use Rattle.arith.specs.declared.format.Format.{Format}
+use Rattle.machine.proofs.Floats.{flag, sign_some, width_bound, size_rest}
 use Rattle.machine.proofs.float.size.Goals as goal
 
-pub returns-then-wide : goal.returns-then-wide
-unfolding sign
-returns-then-wide c = c.size_binary64.ensures ∙ size_is binary64 _ (wide_is _ c.if-wide.true) _
+pub nonzero_rem-result : goal.nonzero_rem-result
+nonzero_rem-result g c = let e = ap (λ (F : Format). F.sign) c.format_at.ensures in omega (arith, sign_some (flag g.row.WIDE))
 
 pub returns : goal.returns
-unfolding sign
-returns c = c.size_binary32.ensures ∙ size_is binary32 _ (narrow_is _ c.if-wide.false) _
+returns g c = size_rest _ _ c.format_at.ensures _ (width_bound (flag g.row.WIDE) c.args.p c.requires c.ranges.p.fits)

@@ -5,12 +5,10 @@ use Rattle.arith.specs.Narrows.{narrow_of}
 use Rattle.machine.specs.Shortcuts.{Answers}
 use Rattle.machine.proofs.shortcut.shortcut_at.Goals as goal
 
-pub returns-then-width-eq64 : goal.returns-then-width-eq64
+pub returns-in-64 : goal.returns-in-64
 unfolding narrow_of
-returns-then-width-eq64 c = let a = c.args in subst (λ (w : ℕ). Answers (λ p q. narrow_of w p q a.b) a.x a.a c.shortcut64.result) (sym c.if-width-eq64.true) c.shortcut64.ensures
+returns-in-64 c = let a = c.args in subst (λ (w : ℕ). Answers (λ p q. narrow_of w p q a.b) a.x a.a c.shortcut.result) (sym c.in-64.is) c.shortcut.ensures
 
-pub returns-then-width-eq32 : goal.returns-then-width-eq32
+pub returns-in-32 : goal.returns-in-32
 unfolding narrow_of
-returns-then-width-eq32 c =
-    let a = c.args in
-    subst (λ (w : ℕ). Answers (λ p q. narrow_of w p q a.b) a.x a.a c.shortcut32.result) (sym c.if-width-eq32.true) c.shortcut32.ensures
+returns-in-32 c = let a = c.args in subst (λ (w : ℕ). Answers (λ p q. narrow_of w p q a.b) a.x a.a c.shortcut-in-32.result) (sym c.in-32.is) c.shortcut-in-32.ensures

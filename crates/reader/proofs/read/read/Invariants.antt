@@ -4,8 +4,8 @@ use Prim.Native.Nat.{◌-◌}
 use Rattle.reader.proofs.Following.{Reading}
 use Rattle.reader.proofs.read.read.Given as goal
 
-abbrev pub invariant-loop-width : goal.invariant-loop-width
-invariant-loop-width l = Reading l.text l.cursor l.sheet
+abbrev pub invariant-loop-read : goal.invariant-loop-read
+invariant-loop-read l = Reading l.text l.cursor l.sheet
 
-abbrev pub decreases-loop-width : goal.decreases-loop-width
-decreases-loop-width l = length l.text - l.cursor.at
+abbrev pub decreases-loop-read : goal.decreases-loop-read
+decreases-loop-read l = length l.text - l.cursor.at

@@ -1,38 +1,28 @@
 -- `add_record` meets its contract: refused, the sheet as it came; else the sheet with a record more.
 -- Assumes nothing.
-use mathlib.Core.Path.{◌≡◌, ap₂, ◌∙◌}
-use Prim.Native.Nat.{ℕ}
+use mathlib.Core.Path.{ap, sym, ◌∙◌}
 use lib.Dec.{ltb}
-use Rattle.sheet.specs.declared.kept.Answer.{Answer}
-use Rattle.sheet.specs.Faults.{record_fault}
+use Rattle.sheet.specs.Faults.{Fault}
 use Rattle.sheet.specs.Sheets.{test_of, tidied, add_test, with_record, add_record_of}
 use Rattle.sheet.proofs.Answers.{refused_old, done_new}
 use Rattle.sheet.proofs.Replies.{add_record_keeps}
 use Rattle.sheet.proofs.adding.add_record.Goals as goal
-use Rattle.sheet.proofs.adding.add_record.Goals.{After-test_addition-answer}
 
--- the answer is that of the order of adding
-answered :
-    (c : After-test_addition-answer) →
-    let g = c.args in
-    let s = g.sheet in
-    c.test_addition-answer.result ≡ add_test (test_of s) (record_fault s.cell_count g.«record») (ltb s.record_count 128)
-answered c =
-    let s = c.args.sheet in
-    c.test_addition-answer.ensures ∙ ap₂ (λ (a : Answer) (n : ℕ). add_test a n (ltb s.record_count 128)) c.test_sheet.ensures c.record_fault-fault.ensures
-
-pub returns-in-Refused : goal.returns-in-Refused
-unfolding add_record_of
-returns-in-Refused c =
-    let g = c.args in
-    let s = g.sheet in
-    let p = add_record_keeps s g.«record» (refused_old s (with_record (tidied s) g.«record») _ _ (answered (goal.at.returns-in-Refused c).After-test_addition-answer) _ c.in-Refused.is) in
-    record { value = p.0; keeps = p.1 }
-
-pub returns : goal.returns
+pub returns-in-Ok : goal.returns-in-Ok
 unfolding add_record_of tidied
-returns c =
+returns-in-Ok c =
     let g = c.args in
     let s = g.sheet in
-    let p = add_record_keeps s g.«record» (rw c.tidy-next.ensures (done_new s (with_record (tidied s) g.«record») _ _ (answered (goal.at.returns c).After-test_addition-answer) c.in_default.is)) in
-    record { value = p.0; keeps = p.1 }
+    let next = with_record (tidied s) g.«record» in
+    let t = ap (λ (f : Fault). add_test (test_of s) f (ltb s.record_count 128)) (sym c.record_fault-fault.ensures) ∙ c.in-Ok.ensures.0 in
+    let e = c.done.ensures ∙ rw c.in-Ok.ensures.1 (done_new s next t) in
+    record { value = e; keeps = add_record_keeps s g.«record» e }
+
+pub returns-in-Err : goal.returns-in-Err
+unfolding add_record_of
+returns-in-Err c =
+    let g = c.args in
+    let s = g.sheet in
+    let t = ap (λ (f : Fault). add_test (test_of s) f (ltb s.record_count 128)) (sym c.record_fault-fault.ensures) ∙ c.in-Err.ensures in
+    let e = c.refused.ensures ∙ refused_old s (with_record (tidied s) g.«record») t in
+    record { value = e; keeps = add_record_keeps s g.«record» e }

@@ -6,12 +6,12 @@ use Rattle.arith.proofs.Signs.{zero_pattern, signed_pattern}
 use Rattle.arith.proofs.sum.Signed.pattern.Goals as goal
 
 pub returns-then-self-eq0 : goal.returns-then-self-eq0
-returns-then-self-eq0 c = zero_pattern c.args.format c.requires.0 (is_set c.args.self.sign) c.args.self.m c.if-self-eq0.true
+returns-then-self-eq0 c = zero_pattern c.args.format c.args.format.sound (is_set c.args.self.sign) c.args.self.m c.if-self-eq0.true
 
 pub overflow_add-result : goal.overflow_add-result
 overflow_add-result c =
-    let ok = c.requires.0 in
-    let z = c.requires.1 in
+    let ok = c.args.format.sound in
+    let z = c.requires in
     elim z.sign [
       | clear e ↦ omega (arith, ok.word, infinity_lt c.args.format ok, z.m)
       | set e ↦ omega (arith, ok.word, infinity_lt c.args.format ok, z.m)
@@ -20,6 +20,6 @@ overflow_add-result c =
 pub returns : goal.returns
 returns c =
     let F = c.args.format in
-    let ok = c.requires.0 in
-    let z = c.requires.1 in
+    let ok = c.args.format.sound in
+    let z = c.requires in
     signed_pattern F ok c.args.self z.sign c.if-self-eq0.false (omega (arith, infinity_lt F ok, z.m))
