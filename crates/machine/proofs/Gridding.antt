@@ -25,7 +25,7 @@ use Rattle.arith.proofs.Clamping.{field}
 use Rattle.machine.specs.declared.guess.Pair.{Pair}
 use Rattle.machine.specs.Floats.{ordinals, unsigned, HalfUlp, Adds, Negates}
 use Rattle.machine.specs.Shortcuts.{left_x, left_a, Gridded, Passes, over, under}
-use Rattle.machine.proofs.HalfUlps.{low_finite, size_low, size_high}
+use Rattle.machine.proofs.HalfUlps.{low_finite, size_low, size_high, size_lt}
 
 -- all of I lie m ordinals or more above zero, or below it
 data Apart (F : Format) (m : ℕ) (I : Interval) : Type 0 where
@@ -67,6 +67,10 @@ module _ (F : Format) (ok : Sound F) where
   from_minus m p I l n h i = below (omega (arith, ok.sign, ordinal_high F ok p l, size_high F ok p l, finite_fits F ok p n))
 
   -- ---- the step
+  pub size_chosen : (first : Bool) (p q r : ℕ) → r ≡ cond first p q → is_finite F p ≡ true → is_finite F q ≡ true → unsigned F r < F.infinity
+  size_chosen true p q r e P Q = rw e (size_lt F ok p P)
+  size_chosen false p q r e P Q = rw e (size_lt F ok q Q)
+
   module _ (p q : Pair) (p-finite : is_finite F p.high ≡ true) (q-finite : is_finite F q.high ≡ true) (plus minus u : ℕ) (h : HalfUlp F (min (unsigned F plus) (unsigned F minus) + 2 ^ F.fraction) u) where
     abbrev m : ℕ
     m = min (unsigned F plus) (unsigned F minus)

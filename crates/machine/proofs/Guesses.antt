@@ -58,6 +58,13 @@ module _ (F : Format) (ok : Sound F) where
   inner G m c d true l e h t i = rw i (inner_at F G m c e h (sym t))
   inner G m c d false l e h t i = rw i (one_inner l)
 
+  -- a number stands before c
+  pub inner_some : (c : ℕ) → Inner F c → 1 ≤ c
+  inner_some c n = elim (le_or_lt F.sign c) [
+    | inl l ↦ omega (arith, infinity_lt F ok, n.few)
+    | inr l ↦ omega (arith, size_low F ok c l, n.some)
+  ]
+
   -- the number after c fits a word
   pub inner_fits : (c : ℕ) → Inner F c → c + 1 < 2 ^ 64
   inner_fits c n = elim (le_or_lt F.sign c) [

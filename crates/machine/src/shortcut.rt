@@ -139,7 +139,7 @@ fn shortcut<const WIDE: bool>(
     let p = trim::<WIDE>(x.low, a.high, b, h);
     let q = trim::<WIDE>(a.low, x.high, b, h);
     if !(p.sure & q.sure) {
-        return Err(Left { x, a });
+        return Err(Left { x, a }); // a trim that is not sure
     }
     let u = grid_step::<WIDE>(p, q);
     match judge::<WIDE>(x, a, b, p, q, u) {

@@ -6,8 +6,8 @@ use crate::named::{
 use crate::narrowings::{FINITE, ONES, Three};
 use crate::print::{Answer, EndsAt, conclude, refused_by};
 use arith::refusal::{Reason, Refusal};
+use std::fmt;
 use std::io::Stdout;
-use std::{fmt, io};
 use tazsmibor::floats::{FloatEnds, Floats, narrow_floats};
 
 // The floats of one interval by their patterns: == of floats holds of both zeros, and of no NaN.
@@ -30,9 +30,9 @@ impl fmt::Display for Patterns {
 
 // Those of x, a and b.
 impl Answer for [Patterns; 3] {
-    fn show(&self, out: Stdout, _width: u64) -> io::Result<()> {
+    fn show(&self, out: Stdout, _width: u64) {
         let [x, a, b] = self;
-        print!(out; " = x {x}, a {a}, b {b}")
+        let _ = print!(out; " = x {x}, a {a}, b {b}");
     }
 }
 
@@ -59,27 +59,27 @@ fn answer_of(answer: Result<FloatEnds, Refusal>) -> Result<[Patterns; 3], Refusa
 }
 
 // A line with the intervals given, and the floats by their patterns.
-fn read(out: Stdout, given: Three, expected: Result<[Patterns; 3], Refusal>) -> io::Result<()> {
+fn read(out: Stdout, given: Three, expected: Result<[Patterns; 3], Refusal>) {
     let [x, a, b] = given;
-    print!(out; "floats{}{}{}", EndsAt(64, x), EndsAt(64, a), EndsAt(64, b))?;
+    let _ = print!(out; "floats{}{}{}", EndsAt(64, x), EndsAt(64, a), EndsAt(64, b));
     let got = answer_of(narrow_floats(x, a, b));
     conclude(out, 64, &got, got == expected)
 }
 
 // 01's first narrowing, one with no triple, an infinite end before a crossed interval, and that interval.
-pub(crate) fn read_floats(out: Stdout) -> io::Result<()> {
+pub(crate) fn read_floats(out: Stdout) {
     let small = Patterns::Span(TIE_BELOW, TIE_ABOVE);
     let one = Patterns::Point(ONE);
     let none = Patterns::None;
     let crossed = ends(1, 0);
     let large = ends(LARGE, TWICE_LARGE);
     let minus_large = ends(MINUS_TWICE_LARGE, MINUS_LARGE);
-    read(out, [FINITE, ONES, ONES], Ok([small, one, one]))?;
-    read(out, [large, minus_large, ONES], Ok([none, none, none]))?;
+    read(out, [FINITE, ONES, ONES], Ok([small, one, one]));
+    read(out, [large, minus_large, ONES], Ok([none, none, none]));
     read(
         out,
         [crossed, ONES, ends(0, INFINITE)],
         refused_by(Reason::NotFinite),
-    )?;
+    );
     read(out, [ONES, ONES, crossed], refused_by(Reason::Reversed))
 }

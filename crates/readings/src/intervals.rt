@@ -6,7 +6,6 @@ use crate::named::{
 use crate::print::{Answer, At, EndsAt, conclude, refused_by};
 use arith::interval::Interval;
 use arith::refusal::{Reason, Refusal};
-use std::io;
 use std::io::Stdout;
 
 // The interval with these ends.
@@ -15,23 +14,25 @@ pub(crate) fn ends(low: u64, high: u64) -> Interval {
 }
 
 impl Answer for Interval {
-    fn show(&self, out: Stdout, width: u64) -> io::Result<()> {
-        print!(out; " ={}", EndsAt(width, *self))
+    fn show(&self, out: Stdout, width: u64) {
+        let _ = print!(out; " ={}", EndsAt(width, *self));
     }
 }
 
 // What is shared.
 impl Answer for Option<Interval> {
-    fn show(&self, out: Stdout, width: u64) -> io::Result<()> {
+    fn show(&self, out: Stdout, width: u64) {
         match self {
             Some(i) => i.show(out, width),
-            None => print!(out; " = nothing"),
+            None => {
+                let _ = print!(out; " = nothing");
+            }
         }
     }
 }
 
 // [1, 3] and [2, 4] share [2, 3], [1, 2] and [3, 4] nothing, and a shared zero has its one pattern.
-fn read_cuts(out: Stdout) -> io::Result<()> {
+fn read_cuts(out: Stdout) {
     let low = ends(ONE_32, TWO_32);
     let crossed = ends(TWO_32, ONE_32);
     let infinite = ends(INFINITE_32, 0);
@@ -54,15 +55,14 @@ fn read_cuts(out: Stdout) -> io::Result<()> {
         (32, crossed, to_infinity, refused_by(Reason::NotFinite)),
         (32, low, crossed, refused_by(Reason::Reversed)),
     ] {
-        print!(out; "cut {width}{}{}", EndsAt(width, i), EndsAt(width, j))?;
+        let _ = print!(out; "cut {width}{}{}", EndsAt(width, i), EndsAt(width, j));
         let got = i.cut(width, j);
-        conclude(out, width, &got, got == expected)?;
+        conclude(out, width, &got, got == expected);
     }
-    Ok(())
 }
 
 // Ends are rounded each by itself: [1, 1 + 2^-52] by 2^-53 becomes [1, 1 + 2^-51].
-fn read_shifts(out: Stdout) -> io::Result<()> {
+fn read_shifts(out: Stdout) {
     for (width, i, c, expected) in [
         (64, ends(ONE, ONE + 1), TIE_ABOVE, Ok(ends(ONE, ONE + 2))),
         (64, ends(MINUS_ONE, ONE), ONE, Ok(ends(0, TWO))),
@@ -87,11 +87,10 @@ fn read_shifts(out: Stdout) -> io::Result<()> {
             refused_by(Reason::Overflow),
         ),
     ] {
-        print!(out; "shift {width}{}{}", EndsAt(width, i), At(width, &[c]))?;
+        let _ = print!(out; "shift {width}{}{}", EndsAt(width, i), At(width, &[c]));
         let got = i.shift(width, c);
-        conclude(out, width, &got, got == expected)?;
+        conclude(out, width, &got, got == expected);
     }
-    Ok(())
 }
 
 // A line for a call of this name at each width and interval, with the answer expected.
@@ -100,19 +99,18 @@ fn read_images<F: Fn(Interval, u64) -> Result<Interval, Refusal>>(
     name: &str,
     call: F,
     cases: &[(u64, Interval, Result<Interval, Refusal>)],
-) -> io::Result<()>
+)
     requires { F.IsAlwaysCallable call }
 {
     for (width, i, expected) in cases {
         let width = *width;
-        print!(out; "{name} {width}{}", EndsAt(width, *i))?;
+        let _ = print!(out; "{name} {width}{}", EndsAt(width, *i));
         let got = call(*i, width);
-        conclude(out, width, &got, got == *expected)?;
+        conclude(out, width, &got, got == *expected);
     }
-    Ok(())
 }
 
-fn read_mirrors(out: Stdout) -> io::Result<()> {
+fn read_mirrors(out: Stdout) {
     read_images(
         out,
         "mirror",
@@ -132,7 +130,7 @@ fn read_mirrors(out: Stdout) -> io::Result<()> {
 }
 
 // The mirror without a test: of both zeros, and of an interval out of order.
-fn read_mirrored_ends(out: Stdout) -> io::Result<()> {
+fn read_mirrored_ends(out: Stdout) {
     read_images(
         out,
         "mirror of the ends",
@@ -149,7 +147,7 @@ fn read_mirrored_ends(out: Stdout) -> io::Result<()> {
     )
 }
 
-fn read_canonicals(out: Stdout) -> io::Result<()> {
+fn read_canonicals(out: Stdout) {
     read_images(
         out,
         "canonical",
@@ -168,10 +166,10 @@ fn read_canonicals(out: Stdout) -> io::Result<()> {
     )
 }
 
-pub(crate) fn read_intervals(out: Stdout) -> io::Result<()> {
-    read_cuts(out)?;
-    read_shifts(out)?;
-    read_mirrors(out)?;
-    read_mirrored_ends(out)?;
+pub(crate) fn read_intervals(out: Stdout) {
+    read_cuts(out);
+    read_shifts(out);
+    read_mirrors(out);
+    read_mirrored_ends(out);
     read_canonicals(out)
 }

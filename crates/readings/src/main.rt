@@ -9,13 +9,11 @@ mod print;
 mod sums;
 mod traps;
 
-use std::io;
-
-fn main(rt: HostRuntime) -> io::Result<()> {
+fn main(rt: HostRuntime) {
     let out = rt.stdout();
-    sums::read_sums(out)?;
-    intervals::read_intervals(out)?;
-    narrowings::read_narrowings(out)?;
-    traps::read_traps(out)?;
+    sums::read_sums(out);
+    intervals::read_intervals(out);
+    narrowings::read_narrowings(out);
+    traps::read_traps(out);
     floats::read_floats(out)
 }

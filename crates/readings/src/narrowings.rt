@@ -8,21 +8,20 @@ use crate::print::{Answer, EndsAt, conclude, refused_by};
 use arith::interval::Interval;
 use arith::narrow::{Narrowed, narrow};
 use arith::refusal::{Reason, Refusal};
-use std::io;
 use std::io::Stdout;
 
 // x, a and b.
 pub(crate) type Three = [Interval; 3];
 
 impl Answer for Three {
-    fn show(&self, out: Stdout, width: u64) -> io::Result<()> {
+    fn show(&self, out: Stdout, width: u64) {
         let [x, a, b] = *self;
-        print!(out;
+        let _ = print!(out;
             " ={}{}{}",
             EndsAt(width, x),
             EndsAt(width, a),
             EndsAt(width, b)
-        )
+        );
     }
 }
 
@@ -37,14 +36,14 @@ pub(crate) fn read_narrowing(
     width: u64,
     given: Three,
     expected: Result<Three, Refusal>,
-) -> io::Result<()> {
+) {
     let [x, a, b] = given;
-    print!(out;
+    let _ = print!(out;
         "narrow {width}{}{}{}",
         EndsAt(width, x),
         EndsAt(width, a),
         EndsAt(width, b)
-    )?;
+    );
     let got = answer_of(narrow(width, x, a, b));
     let fast = answer_of(machine::narrow::narrow(width, x, a, b));
     conclude(out, width, &got, got == expected && fast == expected)
@@ -62,16 +61,16 @@ pub(crate) const ONES: Interval = Interval {
 };
 
 // 01's narrowings.
-fn read_starred(out: Stdout) -> io::Result<()> {
+fn read_starred(out: Stdout) {
     let small = ends(TIE_BELOW, TIE_ABOVE);
-    read_narrowing(out, 64, [FINITE, ONES, ONES], Ok([small, ONES, ONES]))?;
+    read_narrowing(out, 64, [FINITE, ONES, ONES], Ok([small, ONES, ONES]));
     let finite = ends(LEAST_32, LARGEST_32);
     let ones = ends(ONE_32, ONE_32);
     let small = ends(0xB3000000, 0x33800000);
-    read_narrowing(out, 32, [finite, ones, ones], Ok([small, ones, ones]))?;
+    read_narrowing(out, 32, [finite, ones, ones], Ok([small, ones, ones]));
     let twos = ends(TWO, TWO + 1);
     let minus_ones = ends(0xBFF0000000000002, 0xBFEFFFFFFFFFFFFF);
-    read_narrowing(out, 64, [FINITE, twos, ONES], Ok([minus_ones, twos, ONES]))?;
+    read_narrowing(out, 64, [FINITE, twos, ONES], Ok([minus_ones, twos, ONES]));
     let large = ends(LARGE, TWICE_LARGE);
     let minus_large = ends(MINUS_TWICE_LARGE, MINUS_LARGE);
     read_narrowing(
@@ -83,7 +82,7 @@ fn read_starred(out: Stdout) -> io::Result<()> {
 }
 
 // The sum of 01's listing.
-fn read_listing(out: Stdout) -> io::Result<()> {
+fn read_listing(out: Stdout) {
     let x = ends(0xC630000000000000, 0xC330000000000000);
     let a = ends(ONE, 0x4630000000000000);
     let b = ends(0x3FE0000000000000, 0x3FF8000000000000);
@@ -93,7 +92,7 @@ fn read_listing(out: Stdout) -> io::Result<()> {
 }
 
 // Zero in its one pattern, the largest floats, all floats.
-fn read_extremes(out: Stdout) -> io::Result<()> {
+fn read_extremes(out: Stdout) {
     let zero = ends(0, 0);
     let minus_zero = ends(MINUS_ZERO, MINUS_ZERO);
     let about_zero = ends(MINUS_ZERO, 1);
@@ -102,7 +101,7 @@ fn read_extremes(out: Stdout) -> io::Result<()> {
         64,
         [minus_zero, zero, about_zero],
         Ok([zero, zero, zero]),
-    )?;
+    );
     let largest = ends(LARGEST, LARGEST);
     let positive = ends(0, LARGEST);
     let lost = ends(0, 0x7C8FFFFFFFFFFFFF);
@@ -111,7 +110,7 @@ fn read_extremes(out: Stdout) -> io::Result<()> {
         64,
         [largest, positive, FINITE],
         Ok([largest, lost, largest]),
-    )?;
+    );
     read_narrowing(
         out,
         64,
@@ -121,7 +120,7 @@ fn read_extremes(out: Stdout) -> io::Result<()> {
 }
 
 // Refusals 1; 2 for each end; 3 for x, a, b.
-fn read_refusals(out: Stdout) -> io::Result<()> {
+fn read_refusals(out: Stdout) {
     let crossed = ends(TWO, ONE);
     let infinite = ends(0, INFINITE);
     let infinite_low = ends(MINUS_INFINITE, 0);
@@ -137,14 +136,13 @@ fn read_refusals(out: Stdout) -> io::Result<()> {
         (64, [ONES, ONES, ONES], Reason::NoTriple),
         (32, [ONES, ONES, ONES], Reason::NotFinite),
     ] {
-        read_narrowing(out, width, given, refused_by(reason))?;
+        read_narrowing(out, width, given, refused_by(reason));
     }
-    Ok(())
 }
 
-pub(crate) fn read_narrowings(out: Stdout) -> io::Result<()> {
-    read_starred(out)?;
-    read_listing(out)?;
-    read_extremes(out)?;
+pub(crate) fn read_narrowings(out: Stdout) {
+    read_starred(out);
+    read_listing(out);
+    read_extremes(out);
     read_refusals(out)
 }

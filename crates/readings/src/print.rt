@@ -1,8 +1,8 @@
 // What a line shows: patterns as their width writes them, an answer or its refusal, and whether that was expected.
 use arith::interval::Interval;
 use arith::refusal::{Reason, Refusal};
+use std::fmt;
 use std::io::Stdout;
-use std::{fmt, io};
 
 // Patterns of a width, each after a space.
 #[derive(Clone, Copy)]
@@ -41,7 +41,7 @@ pub(crate) fn refused_by<A>(reason: Reason) -> Result<A, Refusal> {
 // What a call answers where it does not refuse.
 pub(crate) trait Answer: PartialEq {
     // The answer, patterns as the width writes them.
-    fn show(&self, out: Stdout, width: u64) -> io::Result<()>;
+    fn show(&self, out: Stdout, width: u64);
 }
 
 // The rest of a line: the answer, and whether it is the one expected.
@@ -50,15 +50,17 @@ pub(crate) fn conclude<A: Answer>(
     width: u64,
     got: &Result<A, Refusal>,
     expected: bool,
-) -> io::Result<()> {
+) {
     match got {
-        Ok(answer) => answer.show(out, width)?,
-        Err(r) => print!(out; " refused {}", r.reason.number())?,
+        Ok(answer) => answer.show(out, width),
+        Err(r) => {
+            let _ = print!(out; " refused {}", r.reason.number());
+        }
     }
     let verdict = if expected {
         "as expected"
     } else {
         "NOT AS EXPECTED"
     };
-    println!(out; ", {verdict}")
+    let _ = println!(out; ", {verdict}");
 }

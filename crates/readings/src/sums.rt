@@ -5,17 +5,16 @@ use crate::named::{
 use crate::print::{Answer, At, conclude, refused_by};
 use arith::refusal::{Reason, Refusal};
 use arith::sum::{Mark, Sum, add};
-use std::io;
 use std::io::Stdout;
 
 impl Answer for Sum {
-    fn show(&self, out: Stdout, width: u64) -> io::Result<()> {
+    fn show(&self, out: Stdout, width: u64) {
         let mark = self.mark.number();
-        print!(out;
+        let _ = print!(out;
             " ={} mark {mark} remainder{}",
             At(width, &[self.pattern]),
             At(width, &[self.remainder])
-        )
+        );
     }
 }
 
@@ -29,14 +28,14 @@ fn sum_of(pattern: u64, mark: Mark, remainder: u64) -> Result<Sum, Refusal> {
 }
 
 // A line with the sum as answered, and whether that is the answer expected.
-fn read(out: Stdout, width: u64, x: u64, a: u64, expected: Result<Sum, Refusal>) -> io::Result<()> {
-    print!(out; "sum {width}{}", At(width, &[x, a]))?;
+fn read(out: Stdout, width: u64, x: u64, a: u64, expected: Result<Sum, Refusal>) {
+    let _ = print!(out; "sum {width}{}", At(width, &[x, a]));
     let got = add(width, x, a);
     conclude(out, width, &got, got == expected)
 }
 
 // Ties, neighbours of ties, the smallest floats and the largest.
-fn read_starred(out: Stdout) -> io::Result<()> {
+fn read_starred(out: Stdout) {
     for (width, x, a, expected) in [
         (64, ONE, TIE_ABOVE, sum_of(ONE, Mark::Rounded, TIE_ABOVE)),
         (
@@ -65,13 +64,12 @@ fn read_starred(out: Stdout) -> io::Result<()> {
             sum_of(ONE_32, Mark::Rounded, 0x33800000),
         ),
     ] {
-        read(out, width, x, a, expected)?;
+        read(out, width, x, a, expected);
     }
-    Ok(())
 }
 
 // Zero has one pattern; below a power of two the floats are twice as dense.
-fn read_signs(out: Stdout) -> io::Result<()> {
+fn read_signs(out: Stdout) {
     for (width, x, a, expected) in [
         (64, MINUS_ZERO, MINUS_ZERO, sum_of(0, Mark::Exact, 0)),
         (64, ONE, MINUS_ONE, sum_of(0, Mark::Exact, 0)),
@@ -91,13 +89,12 @@ fn read_signs(out: Stdout) -> io::Result<()> {
         ),
         (32, 0x7F7FFFFF, 0x73000000, refused_by(Reason::Overflow)),
     ] {
-        read(out, width, x, a, expected)?;
+        read(out, width, x, a, expected);
     }
-    Ok(())
 }
 
 // What rounding left over: of a tie that went up, of a carry into the next binade, and of sums below zero.
-fn read_remainders(out: Stdout) -> io::Result<()> {
+fn read_remainders(out: Stdout) {
     for (x, a, expected) in [
         (
             ONE + 1,
@@ -120,13 +117,12 @@ fn read_remainders(out: Stdout) -> io::Result<()> {
             sum_of(MINUS_ONE - 1, Mark::Rounded, 0x3960000000000000),
         ),
     ] {
-        read(out, 64, x, a, expected)?;
+        read(out, 64, x, a, expected);
     }
-    Ok(())
 }
 
 // One unit left over: where the signs are opposite, and across a gap of more than a word, on either side of zero.
-fn read_units_left(out: Stdout) -> io::Result<()> {
+fn read_units_left(out: Stdout) {
     for (width, x, a, pattern) in [
         (
             64,
@@ -138,13 +134,12 @@ fn read_units_left(out: Stdout) -> io::Result<()> {
         (64, LEAST, 1, LEAST),
         (32, 0x01800000, 0x80000003, 0x017FFFFE),
     ] {
-        read(out, width, x, a, sum_of(pattern, Mark::Rounded, 1))?;
+        read(out, width, x, a, sum_of(pattern, Mark::Rounded, 1));
     }
-    Ok(())
 }
 
 // Refusals 1, 2 for x, 2 for a, and their order.
-fn read_refusals(out: Stdout) -> io::Result<()> {
+fn read_refusals(out: Stdout) {
     for (width, x, a, reason) in [
         (0, INFINITE, INFINITE, Reason::Width),
         (33, ONE_32, ONE_32, Reason::Width),
@@ -153,15 +148,14 @@ fn read_refusals(out: Stdout) -> io::Result<()> {
         (32, 0x100000000, ONE_32, Reason::NotFinite),
         (32, ONE_32, 0x7F800001, Reason::NotFinite),
     ] {
-        read(out, width, x, a, refused_by(reason))?;
+        read(out, width, x, a, refused_by(reason));
     }
-    Ok(())
 }
 
-pub(crate) fn read_sums(out: Stdout) -> io::Result<()> {
-    read_starred(out)?;
-    read_signs(out)?;
-    read_remainders(out)?;
-    read_units_left(out)?;
+pub(crate) fn read_sums(out: Stdout) {
+    read_starred(out);
+    read_signs(out);
+    read_remainders(out);
+    read_units_left(out);
     read_refusals(out)
 }

@@ -1,5 +1,5 @@
 -- The kept sheet: what is in use, its one written form, its test in the order of lists, and the whole answers of opening, accepting and adding. Assumes nothing.
-use Rattle.std.specs.Prelude.{◌≡◌, Bool, cond, List, [], ◌∷◌, ◌++◌, map, ℕ, ◌+◌, ◌-◌, leb, ltb, eqb, length, replicate, take, set, Result, Ok, Err, is_ok, MatchResult}
+use Rattle.std.specs.Prelude.{◌≡◌, Bool, cond, List, [], ◌∷◌, ◌++◌, map, ℕ, ◌+◌, ◌-◌, leb, ltb, length, replicate, take, set, Result, Ok, Err, is_ok}
 use Rattle.arith.specs.declared.interval.Interval.{Interval}
 use Rattle.arith.specs.declared.refusal.Reason.{Reason}
 use Rattle.arith.specs.declared.refusal.Refusal.{Refusal}
@@ -142,12 +142,6 @@ accept_of s = kept_by (test_of s) s (tidied s)
 -- the sheet's own test, then the fault, then 10 where there is no room; place 0 for what is being added
 abbrev pub add_test : Answer → Fault → Bool → Answer
 add_test tested fault room = and_then tested (and_then (fault_at fault 0) (require room Reason.Full 0))
-
--- the sheet tidied where these let pass, else the refusal
-abbrev pub Readies : Sheet → Fault → Bool → Result Sheet Refusal → Type 0
-Readies s fault room r =
-    let test = add_test (test_of s) fault room in
-    MatchResult r (λ next. (test ≡ Ok tt) × (next ≡ tidied s)) (λ q. test ≡ Err q)
 
 -- the sheet with a cell more
 abbrev pub with_cell : Sheet → Interval → Sheet

@@ -9,12 +9,15 @@ use crate::tidying::tidy;
 
 // The sheet with each end in its one pattern and unused places zero; refusals in the order of lists.
 #[tactic(auto, unfolding(crate::specs::Sheets::accept_of), using(crate::proofs::Replies::accept_keeps))]
-pub fn accept(sheet: Sheet) -> Kept
+pub fn accept(mut sheet: Sheet) -> Kept
     ensures value { result ≡ accept_of sheet }
     ensures keeps { Keeps sheet (tidied sheet) (sheet_tests sheet) result }
 {
-    match test_sheet(sheet) {
-        Ok(()) => Kept::done(tidy(sheet)),
+    match test_sheet(&sheet) {
+        Ok(()) => {
+            tidy(&mut sheet);
+            Kept::done(sheet)
+        }
         Err(r) => Kept::refused(sheet, r),
     }
 }

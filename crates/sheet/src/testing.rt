@@ -21,8 +21,8 @@ fn first_fault<T: Item>(bound: u64, items: &[T]) -> Result<(), Refusal>
 
 // The first refusal of a sheet, if there is one.
 #[tactic(auto, unfolding(crate::specs::Sheets::test_lists))]
-pub(crate) fn test_sheet(sheet: Sheet) -> Result<(), Refusal>
-    ensures { result ≡ test_of sheet }
+pub(crate) fn test_sheet(sheet: &Sheet) -> Result<(), Refusal>
+    ensures { result ≡ test_of sheet.now }
 {
     head_fault(sheet.width, sheet.limit)?;
     if 64 < sheet.cell_count {

@@ -8,7 +8,6 @@ use crate::reply::Reply;
 use arith::interval::Interval;
 use arith::refusal::Reason;
 use sheet::kept::Record;
-use std::io;
 use std::io::Stdout;
 
 // The first four cells of an array.
@@ -48,14 +47,14 @@ fn case_of(limit: u64, given: Four, n: usize, records: [Record; 2], m: usize) ->
 }
 
 // The rest of a line for a case: its outcome and the first four cells after it, and whether they are the ones expected, of the kept sheet too.
-fn read(out: Stdout, case: &Case, reply: Reply, expected: Four) -> io::Result<()> {
+fn read(out: Stdout, case: &Case, reply: Reply, expected: Four) {
     let limit = case.limit;
     let left = case.narrow();
     let got = left.reply;
-    print!(out; ", limit {limit}: {got}, cells")?;
+    let _ = print!(out; ", limit {limit}: {got}, cells");
     let cells = &left.cells[..4];
     for cell in cells {
-        print!(out; " {}", Ends(*cell))?;
+        let _ = print!(out; " {}", Ends(*cell));
     }
     let right = got == reply && cells == &expected[..] && left.alike;
     let verdict = if right {
@@ -63,7 +62,7 @@ fn read(out: Stdout, case: &Case, reply: Reply, expected: Four) -> io::Result<()
     } else {
         "NOT AS EXPECTED"
     };
-    println!(out; ", {verdict}")
+    let _ = println!(out; ", {verdict}");
 }
 
 // The sums of 01's second sheet; its listing has the first of them.
@@ -72,8 +71,8 @@ fn both_sums() -> [Record; 2] {
 }
 
 // 01's listing, three cells and one sum.
-fn read_listed(out: Stdout, limit: u64, reply: Reply) -> io::Result<()> {
-    print!(out; "lists, listing")?;
+fn read_listed(out: Stdout, limit: u64, reply: Reply) {
+    let _ = print!(out; "lists, listing");
     let given = three([
         span(0xC630000000000000, 0xC330000000000000),
         span(0x3FF0000000000000, 0x4630000000000000),
@@ -98,8 +97,8 @@ fn two_sums(places: Interval) -> Four {
 }
 
 // A line for it, with cells 0 and 2 from low to high after the call.
-fn read_two_sums(out: Stdout, limit: u64, reply: Reply, low: u64, high: u64) -> io::Result<()> {
-    print!(out; "lists, two sums")?;
+fn read_two_sums(out: Stdout, limit: u64, reply: Reply, low: u64, high: u64) {
+    let _ = print!(out; "lists, two sums");
     let case = case_of(limit, two_sums(span(0, 10)), 4, both_sums(), 2);
     read(out, &case, reply, two_sums(span(low, high)))
 }
@@ -122,32 +121,27 @@ pub(crate) fn read_over(
     record: Record,
     reply: Reply,
     expected: [Interval; 3],
-) -> io::Result<()> {
-    print!(out; ", {}", Named(record))?;
+) {
+    let _ = print!(out; ", {}", Named(record));
     let case = case_of(10, three(given), 3, [record, record], 1);
     read(out, &case, reply, three(expected))
 }
 
 // A line for one over those at small places.
-pub(crate) fn read_one(
-    out: Stdout,
-    record: Record,
-    reply: Reply,
-    expected: [Interval; 3],
-) -> io::Result<()> {
-    print!(out; "lists")?;
+pub(crate) fn read_one(out: Stdout, record: Record, reply: Reply, expected: [Interval; 3]) {
+    let _ = print!(out; "lists");
     read_over(out, small(), record, reply, expected)
 }
 
 // A line for two records that leave the cells as they were.
-fn read_both(out: Stdout, records: [Record; 2], reply: Reply) -> io::Result<()> {
-    print!(out; "lists, {}, {}", Named(records[0]), Named(records[1]))?;
+fn read_both(out: Stdout, records: [Record; 2], reply: Reply) {
+    let _ = print!(out; "lists, {}, {}", Named(records[0]), Named(records[1]));
     let cells = three(small());
     read(out, &case_of(10, cells, 3, records, 2), reply, cells)
 }
 
 // A diff; a neg without cell 0, which keeps its ends, each in its one pattern; a neg with cell 0 as x, and one with it as y.
-fn read_kinds(out: Stdout) -> io::Result<()> {
+fn read_kinds(out: Stdout) {
     let c0 = span(0, 9);
     let c1 = span(minus(5), 4);
     let c2 = span(minus(4), 6);
@@ -159,22 +153,21 @@ fn read_kinds(out: Stdout) -> io::Result<()> {
         (of_kind(NEG, 0, 1, 0), cut),
         (of_kind(NEG, 1, 0, 0), cut),
     ] {
-        read_one(out, record, Reply::Settled(2), expected)?;
+        read_one(out, record, Reply::Settled(2), expected);
     }
-    Ok(())
 }
 
 // Refusal 4: a kind above 2, and a neg with a third number; before 5 of the same record, after 5 of an earlier one. The cells stay as they were.
-fn read_refused(out: Stdout) -> io::Result<()> {
+fn read_refused(out: Stdout) {
     let unknown = of_kind(UNKNOWN, 0, 1, 2);
     for record in [unknown, of_kind(NEG, 0, 1, 2), of_kind(NEG, 3, 1, 2)] {
-        read_one(out, record, Reply::Fault(Reason::Malformed.at(0)), small())?;
+        read_one(out, record, Reply::Fault(Reason::Malformed.at(0)), small());
     }
     read_both(
         out,
         [of_kind(DIFF, 0, 1, 2), unknown],
         Reply::Fault(Reason::Malformed.at(1)),
-    )?;
+    );
     read_both(
         out,
         [of_kind(NEG, 0, 3, 0), unknown],
@@ -183,20 +176,20 @@ fn read_refused(out: Stdout) -> io::Result<()> {
 }
 
 // A line for a record that has no solution over three positive cells.
-pub(crate) fn read_none(out: Stdout, record: Record) -> io::Result<()> {
-    print!(out; "lists, positive cells")?;
+pub(crate) fn read_none(out: Stdout, record: Record) {
+    let _ = print!(out; "lists, positive cells");
     let given = [point(1), point(2), point(3)];
     read_over(out, given, record, Reply::NoTriple(1, 0), given)
 }
 
 // 01's sheets; of the two sums also its last trap: each sum of the first pass is cut exactly, and the second moves a cell of the first, so nothing is settled.
-pub(crate) fn read_lists(out: Stdout) -> io::Result<()> {
-    read_listed(out, 10, Reply::Settled(2))?;
-    read_listed(out, 1, Reply::Stopped(1))?;
-    read_two_sums(out, 1, Reply::Stopped(1), 1, 9)?;
-    read_two_sums(out, 5, Reply::Stopped(5), 5, 5)?;
-    read_two_sums(out, 6, Reply::NoTriple(6, 0), 0, 10)?;
-    read_kinds(out)?;
-    read_none(out, of_kind(NEG, 0, 1, 0))?;
+pub(crate) fn read_lists(out: Stdout) {
+    read_listed(out, 10, Reply::Settled(2));
+    read_listed(out, 1, Reply::Stopped(1));
+    read_two_sums(out, 1, Reply::Stopped(1), 1, 9);
+    read_two_sums(out, 5, Reply::Stopped(5), 5, 5);
+    read_two_sums(out, 6, Reply::NoTriple(6, 0), 0, 10);
+    read_kinds(out);
+    read_none(out, of_kind(NEG, 0, 1, 0));
     read_refused(out)
 }

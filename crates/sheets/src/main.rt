@@ -13,13 +13,11 @@ mod reply;
 mod tally;
 mod writing;
 
-use std::io;
-
-fn main(rt: HostRuntime) -> io::Result<()> {
+fn main(rt: HostRuntime) {
     let out = rt.stdout();
-    writing::read_rooms(out, building::build(out)?)?;
-    garbage::read_garbage(out)?;
-    lists::read_lists(out)?;
-    repeated::read_repeated(out)?;
+    writing::read_rooms(out, building::build(out));
+    garbage::read_garbage(out);
+    lists::read_lists(out);
+    repeated::read_repeated(out);
     compare::compare_lists(out)
 }

@@ -3,11 +3,10 @@ use crate::lists::{minus, point, read_none, read_one, read_over, span};
 use crate::print::{DIFF, NEG, SUM, of_kind};
 use crate::reply::Reply;
 use arith::interval::Interval;
-use std::io;
 use std::io::Stdout;
 
 // Small places, where every sum is exact. Sums: x + x = b, whose b is even; x + a = x and x + a = a, with zero for the other cell; all three alike, zero. Diffs: x - x = b, whose b is zero; x - a = a, which is a + a = x; x - a = x; all three alike. A neg: y = -y.
-fn read_small(out: Stdout) -> io::Result<()> {
+fn read_small(out: Stdout) {
     let c0 = span(0, 9);
     let c1 = span(minus(5), 4);
     let c2 = span(minus(7), 6);
@@ -25,14 +24,13 @@ fn read_small(out: Stdout) -> io::Result<()> {
         (of_kind(DIFF, 1, 1, 1), [c0, zero, c2]),
         (of_kind(NEG, 1, 1, 0), [c0, zero, c2]),
     ] {
-        read_one(out, record, Reply::Settled(2), expected)?;
+        read_one(out, record, Reply::Settled(2), expected);
     }
-    Ok(())
 }
 
 // A stage at rest, in cells 0 and 1, with what is left of them: x + a = x, or of a diff x - a = x.
-fn read_rest(out: Stdout, kind: u64, given: [Interval; 2], left: [Interval; 2]) -> io::Result<()> {
-    print!(out; "lists, at rest")?;
+fn read_rest(out: Stdout, kind: u64, given: [Interval; 2], left: [Interval; 2]) {
+    let _ = print!(out; "lists, at rest");
     let [x, a] = given;
     let [rests, absorbed] = left;
     let zero = point(0);
@@ -47,7 +45,7 @@ fn read_rest(out: Stdout, kind: u64, given: [Interval; 2], left: [Interval; 2]) 
 }
 
 // 1 absorbs half the step above it, the tie too; its odd neighbour less than half a step; under a diff 1 absorbs half the step below it, the tie too; each of an a from zero to 1. An a from 1 to 4: of x up to 2^53 + 6 only 2^53 and 2^53 + 4 are at rest, with 1.
-fn read_rests(out: Stdout) -> io::Result<()> {
+fn read_rests(out: Stdout) {
     let one = 0x3FF0000000000000;
     for (kind, x, most) in [
         (SUM, one, 0x3CA0000000000000),
@@ -55,7 +53,7 @@ fn read_rests(out: Stdout) -> io::Result<()> {
         (DIFF, one, 0x3C90000000000000),
     ] {
         let x = point(x);
-        read_rest(out, kind, [x, span(0, one)], [x, span(0, most)])?;
+        read_rest(out, kind, [x, span(0, one)], [x, span(0, most)]);
     }
     let x = span(0xBFF0000000000000, 0x4340000000000003);
     let a = span(one, 0x4010000000000000);
@@ -64,9 +62,9 @@ fn read_rests(out: Stdout) -> io::Result<()> {
 }
 
 // Records with a solution; and two without one: 1 + 1 = 3, and all three alike at 2.
-pub(crate) fn read_repeated(out: Stdout) -> io::Result<()> {
-    read_small(out)?;
-    read_rests(out)?;
-    read_none(out, of_kind(SUM, 0, 0, 2))?;
+pub(crate) fn read_repeated(out: Stdout) {
+    read_small(out);
+    read_rests(out);
+    read_none(out, of_kind(SUM, 0, 0, 2));
     read_none(out, of_kind(SUM, 1, 1, 1))
 }

@@ -1,7 +1,6 @@
 // The writer over kept sheets: its length or refusal, the bytes after the listing, and the listing.
 use listing::writer::write;
 use sheet::kept::Sheet;
-use std::io;
 use std::io::Stdout;
 
 // Whether every byte from a position on is 255.
@@ -10,13 +9,17 @@ pub(crate) fn untouched(room: &[u8], from: usize) -> bool {
 }
 
 // A line for the listing in a buffer, which is filled with bytes 255 before, with whether those after it are so still; then the listing.
-fn read_room(out: Stdout, sheet: Sheet, room: &mut [u8]) -> io::Result<()> {
+fn read_room(out: Stdout, sheet: Sheet, room: &mut [u8]) {
     room.fill(255);
     let length = write(sheet, room);
-    print!(out; "write, room {}: ", room.len())?;
+    let _ = print!(out; "write, room {}: ", room.len());
     match length {
-        Ok(n) => print!(out; "length {n}")?,
-        Err(refused) => print!(out; "{refused}")?,
+        Ok(n) => {
+            let _ = print!(out; "length {n}");
+        }
+        Err(refused) => {
+            let _ = print!(out; "{refused}");
+        }
     }
     let n = length.unwrap_or(0).min(room.len());
     let rest = if untouched(room, n) {
@@ -24,13 +27,13 @@ fn read_room(out: Stdout, sheet: Sheet, room: &mut [u8]) -> io::Result<()> {
     } else {
         "OTHER BYTES CHANGED"
     };
-    println!(out; ", {rest}")?;
-    out.write_all(&room[..n])
+    let _ = println!(out; ", {rest}");
+    let _ = out.write_all(&room[..n]);
 }
 
 // 01's listing, whose length is 133: with more room, with just enough, and with a byte less.
-pub(crate) fn read_rooms(out: Stdout, sheet: Sheet) -> io::Result<()> {
-    read_room(out, sheet, &mut [0; 4096])?;
-    read_room(out, sheet, &mut [0; 133])?;
+pub(crate) fn read_rooms(out: Stdout, sheet: Sheet) {
+    read_room(out, sheet, &mut [0; 4096]);
+    read_room(out, sheet, &mut [0; 133]);
     read_room(out, sheet, &mut [0; 132])
 }

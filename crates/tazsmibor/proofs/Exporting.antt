@@ -36,7 +36,7 @@ module _ (s : List ℕ) (n : Narrowed) where
     | no h ↦ let l : 48 ≤ length s = omega arith in rw (le-ltb _ _ l, le-leb _ _ l)
   ]
 
-  ends_buffer : export_buffer s (Ok n) ≡ stored_by due s
+  ends_buffer : export_buffer {E = Refusal} s (Ok n) ≡ stored_by due s
   ends_buffer = elim (dec_lt (length s) 48) [
     | yes h ↦ rw (lt-ltb _ _ h, lt-leb _ _ h)
     | no h ↦ let l : 48 ≤ length s = omega arith in rw (le-ltb _ _ l, le-leb _ _ l, words_six n.x n.a n.b)

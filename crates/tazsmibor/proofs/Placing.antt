@@ -14,6 +14,7 @@ use Rattle.std.specs.Prelude.{Ok}
 use Rattle.std.proofs.lemmas.List.{drop_all}
 use Rattle.arith.specs.declared.interval.Interval.{Interval}
 use Rattle.arith.specs.declared.narrow.Narrowed.{Narrowed}
+use Rattle.arith.specs.declared.refusal.Refusal.{Refusal}
 use Rattle.tazsmibor.specs.Exports.{little_endian, end_bytes, six_ends, placed, export_number, export_buffer}
 
 length_little : (n w : ℕ) → length (little_endian n w) ≡ n
@@ -101,6 +102,6 @@ module _ (n : Narrowed) (s : List ℕ) where
   pub room_number : 48 ≤ length s → 0 ≡ export_number (length s) (Ok n)
   room_number h = sym (ap (λ (t : Bool). cond t 13 0) (le-ltb _ _ h))
 
-  pub room_buffer : 48 ≤ length s → placed 0 (six_ends n.x n.a n.b) s ≡ export_buffer s (Ok n)
+  pub room_buffer : 48 ≤ length s → placed 0 (six_ends n.x n.a n.b) s ≡ export_buffer {E = Refusal} s (Ok n)
   unfolding placed
   room_buffer h = ap (λ (m : ℕ). six_ends n.x n.a n.b ++ drop (0 + m) s) (length_six n.x n.a n.b) ∙ sym (ap (λ (t : Bool). cond t s (six_ends n.x n.a n.b ++ drop 48 s)) (le-ltb _ _ h))

@@ -33,13 +33,21 @@ unfoldable pub placed : ℕ → List ℕ → List ℕ → List ℕ
 placed i bs s = take i s ++ (bs ++ drop (i + length bs) s)
 
 -- ---- the answer, by the cases of the narrowing's
--- the number returned, for a buffer of n bytes: refusal 13 is tested last
+-- the number returned, for a buffer of n bytes, where a refusal has the number that f gives it: refusal 13 is tested last
+abbrev pub number_in : {E : Type 0} → (E → ℕ) → ℕ → Result Narrowed E → ℕ
+number_in f n (Err r) = f r
+number_in f n (Ok ends) = cond (ltb n 48) 13 0
+
+-- a refusal's number: its reason's
+abbrev pub refusal_number : Refusal → ℕ
+refusal_number r = Refusals.number r.reason
+
+-- the number returned, where a refusal has its reason's
 abbrev pub export_number : ℕ → Result Narrowed Refusal → ℕ
-export_number n (Err r) = Refusals.number r.reason
-export_number n (Ok ends) = cond (ltb n 48) 13 0
+export_number = number_in refusal_number
 
 -- what the buffer then holds: on any refusal what it held, else the six ends, and later bytes kept
-abbrev pub export_buffer : List ℕ → Result Narrowed Refusal → List ℕ
+abbrev pub export_buffer : {E : Type 0} → List ℕ → Result Narrowed E → List ℕ
 export_buffer s (Err r) = s
 export_buffer s (Ok ends) = cond (ltb (length s) 48) s (six_ends ends.x ends.a ends.b ++ drop 48 s)
 

@@ -1,10 +1,11 @@
 // The narrowing of one sum for C programs: plain numbers in, a number and the ends' bytes out. The crate `tazsmibor_c` exports it.
 ghost use Rattle.std.specs.Prelude.{◌≡◌, ◌≤◌, length};
-ghost use Rattle.tazsmibor.specs.Exports.{interval, end_bytes, six_ends, placed, export_number, export_buffer, Exports};
+ghost use Rattle.tazsmibor.specs.Exports.{interval, end_bytes, six_ends, placed, number_in, export_buffer, Exports};
 
+use crate::numbered::Numbered;
 use arith::interval::Interval;
 use arith::narrow::{Narrowed, narrow};
-use arith::refusal::{Reason, Refusal};
+use arith::refusal::Reason;
 
 // An interval's low end, then its high end, 8 bytes each, low byte first.
 #[tactic(auto, using(crate::proofs::Placing::ends_put))]
@@ -29,12 +30,12 @@ fn put_all(out: &mut [u8], n: Narrowed)
 
 // The answer's number, and its ends in the buffer where there is room.
 #[tactic(auto, using(crate::proofs::Placing::room_number, crate::proofs::Placing::room_buffer))]
-pub fn put_answer(out: &mut [u8], answer: Result<Narrowed, Refusal>) -> u64
-    ensures value { result ≡ export_number (length out.old) answer }
+pub fn put_answer<E: Numbered>(out: &mut [u8], answer: Result<Narrowed, E>) -> u64
+    ensures value { result ≡ number_in E.number (length out.old) answer }
     ensures out_after { out.new ≡ export_buffer out.old answer }
 {
     match answer {
-        Err(refusal) => refusal.reason.number(),
+        Err(refusal) => refusal.number(),
         Ok(narrowed) => {
             if out.len() < 48 {
                 return Reason::Short.number();

@@ -15,8 +15,8 @@ returns-in-Ok c =
     let g = c.args in
     let s = g.sheet in
     let next = with_cell (tidied s) (canonical_cell s.width g.cell) in
-    let t = ap (λ (f : Fault). add_test (test_of s) f (ltb s.cell_count 64)) (sym c.cell_fault-fault.ensures) ∙ c.in-Ok.ensures.0 in
-    let e = c.done.ensures ∙ rw (c.in-Ok.ensures.1, c.tidied.ensures) (done_new s next t) in
+    let t = ap (λ (f : Fault). add_test (test_of s) f (ltb s.cell_count 64)) (sym c.cell_fault-fault.ensures) ∙ sym c.test_addition.ensures ∙ c.in-Ok.is in
+    let e = c.done.ensures ∙ rw (c.tidy.ensures, c.tidied.ensures) (done_new s next t) in
     record { value = e; keeps = add_cell_keeps s g.cell e }
 
 pub returns-in-Err : goal.returns-in-Err
@@ -24,6 +24,6 @@ unfolding add_cell_of
 returns-in-Err c =
     let g = c.args in
     let s = g.sheet in
-    let t = ap (λ (f : Fault). add_test (test_of s) f (ltb s.cell_count 64)) (sym c.cell_fault-fault.ensures) ∙ c.in-Err.ensures in
+    let t = ap (λ (f : Fault). add_test (test_of s) f (ltb s.cell_count 64)) (sym c.cell_fault-fault.ensures) ∙ sym c.test_addition.ensures ∙ c.in-Err.is in
     let e = c.refused.ensures ∙ refused_old s (with_cell (tidied s) (canonical_cell s.width g.cell)) t in
     record { value = e; keeps = add_cell_keeps s g.cell e }

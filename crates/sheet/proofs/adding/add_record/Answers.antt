@@ -14,8 +14,8 @@ returns-in-Ok c =
     let g = c.args in
     let s = g.sheet in
     let next = with_record (tidied s) g.«record» in
-    let t = ap (λ (f : Fault). add_test (test_of s) f (ltb s.record_count 128)) (sym c.record_fault-fault.ensures) ∙ c.in-Ok.ensures.0 in
-    let e = c.done.ensures ∙ rw c.in-Ok.ensures.1 (done_new s next t) in
+    let t = ap (λ (f : Fault). add_test (test_of s) f (ltb s.record_count 128)) (sym c.record_fault-fault.ensures) ∙ sym c.test_addition.ensures ∙ c.in-Ok.is in
+    let e = c.done.ensures ∙ rw c.tidy.ensures (done_new s next t) in
     record { value = e; keeps = add_record_keeps s g.«record» e }
 
 pub returns-in-Err : goal.returns-in-Err
@@ -23,6 +23,6 @@ unfolding add_record_of
 returns-in-Err c =
     let g = c.args in
     let s = g.sheet in
-    let t = ap (λ (f : Fault). add_test (test_of s) f (ltb s.record_count 128)) (sym c.record_fault-fault.ensures) ∙ c.in-Err.ensures in
+    let t = ap (λ (f : Fault). add_test (test_of s) f (ltb s.record_count 128)) (sym c.record_fault-fault.ensures) ∙ sym c.test_addition.ensures ∙ c.in-Err.is in
     let e = c.refused.ensures ∙ refused_old s (with_record (tidied s) g.«record») t in
     record { value = e; keeps = add_record_keeps s g.«record» e }

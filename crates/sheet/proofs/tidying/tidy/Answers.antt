@@ -14,14 +14,14 @@ use Rattle.sheet.proofs.tidying.tidy.Goals as goal
 
 pub tidy_items-requires : goal.tidy_items-requires
 tidy_items-requires c =
-    let s = c.args.sheet in
+    let s = c.args.sheet.now in
     let n : length s.cells ≡ 64 = search rules in
     let p = all_good s.width s.limit s.cell_count s.record_count (used_cells s) (used_records s) c.requires in
     (omega (arith, p.few_cells), p.cells_good)
 
 pub tidy_items-requires-2 : goal.tidy_items-requires-2
 tidy_items-requires-2 c =
-    let s = c.args.sheet in
+    let s = c.args.sheet.now in
     let n : length s.records ≡ 128 = search rules in
     let p = all_good s.width s.limit s.cell_count s.record_count (used_cells s) (used_records s) c.requires in
     (omega (arith, p.few_records), p.records_good)
@@ -29,7 +29,7 @@ tidy_items-requires-2 c =
 pub returns : goal.returns
 unfolding tidied
 returns c =
-    let s = c.args.sheet in
+    let s = c.args.sheet.now in
     let m : length s.cells ≡ 64 = search rules in
     let n : length s.records ≡ 128 = search rules in
     let cells = c.tidy_items.ensures ∙ ap (λ (places : ℕ). filled places no_cell (map (canonical_cell s.width) (used_cells s)) s.cell_count) m in

@@ -1,5 +1,0 @@
--- `put_digits` calls itself for one digit less. Assumes nothing.
-use Rattle.listing.proofs.lines.Lines.+put_digits.Given as goal
-
-abbrev pub decreases-put_digits : goal.decreases-put_digits
-decreases-put_digits l = l.k
