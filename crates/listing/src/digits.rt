@@ -23,7 +23,8 @@ fn count_digits(n: u64) -> usize
     n.max(1).ilog10() as usize + 1
 }
 
-// Fills places with the last digits of n in a base, the highest first. From the end on, since a recursion over the digits takes more than twice the time of a listing.
+// Fills places with the last digits of n in a base, the highest first, from the last place on: with a recursion over the digits in its place
+// a listing takes more than twice the time.
 fn fill_digits(places: &mut [u8], base: u64, n: u64)
     requires { (0 < base) × (base ≤ 16) }
     ensures { places.new ≡ digits_of base (length places.old) n }

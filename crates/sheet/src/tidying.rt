@@ -34,7 +34,7 @@ fn tidy_items<T: Item>(bound: u64, count: u64, places: &mut [T])
     clear_each(unused);
 }
 
-// Tidies a sheet that the test lets pass, in its place: by value it is copied more often than a small sheet takes to tidy.
+// Tidies a sheet that the test lets pass, in its place, which spares copies of the whole of it.
 pub(crate) fn tidy(sheet: &mut Sheet)
     requires { test_of sheet.old ≡ Ok tt }
     ensures { sheet.new ≡ tidied sheet.old }
